@@ -1,5 +1,5 @@
 #!/usr/bin/env bash
-# How many states, leaves, plans and choices the search for unifiers modulo C, AC and ACU goes through. A state is a set of decisions which nodes of the problem are in one class; a leaf is one in which nothing more is asked; a plan is a leaf with an operator, or none, for each class that several operators use; a choice is a set of minimal solutions for each sum operator of a plan. It proves nothing: run at the top of the repository, it works in a copy. PROBLEMS=FILE takes other problems than those of bench/combine-problems.txt, written as in bench/combine-times.sh.
+# How many states, leaves, plans and choices the search for unifiers modulo C, AC and ACU goes through. A state is a set of decisions which nodes of the problem are in one class; a fact is a state of which all unifiers say the same, so that nothing is asked; a leaf is one in which nothing more is asked; a plan is a leaf with an operator, or none, for each class that several operators use; a choice is a set of minimal solutions for each sum operator of a plan. It proves nothing: run at the top of the repository, it works in a copy. PROBLEMS=FILE takes other problems than those of bench/combine-problems.txt, written as in bench/combine-times.sh.
 set -e
 here=$(cd "$(dirname "$0")/.." && pwd)
 there=$(mktemp -d)
@@ -19,14 +19,14 @@ mod given;
 use self::given::is_given;
 use fvn_base::Seq;
 use fvn_flat::Pairs;
-use fvn_combine_inferring::{Inferred, infer};
+use fvn_combine_inferring::{Inferred, differ, heads_of_values, infer};
 use fvn_combine_leaves::{Reading, first_question, question_on_all, question_on_touched, read};
 use fvn_lindio::Solution;
 use fvn_combine_nodes::{State, Table, Tree, table_of};
 use fvn_combine_candidates::{bases, option_counts, shared, tags_of, wheels};
 use fvn_tests_samples::{problem_of, signature_of};
 use fvn_sorts::Signature;
-use fvn_terms::NoMemory;
+use fvn_terms::{NoMemory, OpId};
 use fvn_acunify_product::Tags;
 use std::alloc::Global;
 use std::process::Abort;
@@ -39,6 +39,8 @@ const PROBLEMS: &str = "@PROBLEMS@";
 /// What a state asks for, or how many plans and choices it has.
 enum Looked {
     Question(usize, usize),
+    Together(usize, usize),
+    Apart(usize, usize),
     Passed,
     Refused,
     Frame(u64, u64),
@@ -53,7 +55,7 @@ fn opened(
     reading: &Reading,
     lists: &[Seq<Solution>],
 ) -> Result<Looked, NoMemory> {
-    let classes = shared(alloc, sig, table, state, reading)?;
+    let classes = shared(alloc, sig, table, state, reading, true)?;
     let counts = option_counts(alloc, classes.as_slice())?;
     let mut tags = Tags::new(alloc, counts)?;
     let mut plans: u64 = 0;
@@ -61,7 +63,7 @@ fn opened(
     while let Some(numbers) = tags.current() {
         plans = plans.saturating_add(1);
         let named = tags_of(alloc, table.nodes().len(), classes.as_slice(), numbers)?;
-        let mut odometer = wheels(alloc, sig, table, state, reading, lists, named.as_slice())?;
+        let mut odometer = wheels(alloc, sig, table, state, reading, lists, named.as_slice(), true)?;
         while let Some(_) = odometer.current() {
             choices = choices.saturating_add(1);
             odometer.advance();
@@ -71,38 +73,70 @@ fn opened(
     Ok(Looked::Frame(plans, choices))
 }
 
-fn look(alloc: Global, sig: &Signature, table: &Table, state: &State) -> Result<Looked, NoMemory> {
-    let reading = read(alloc, sig, table, state)?;
-    match infer(alloc, sig, table, state, &reading)? {
-        Inferred::Impossible => return Ok(Looked::Passed),
-        Inferred::Together(i, j) => return Ok(Looked::Question(i, j)),
-        Inferred::Question(i, j) => return Ok(Looked::Question(i, j)),
-        Inferred::Nothing => {}
+fn question(
+    sig: &Signature,
+    table: &Table,
+    state: &State,
+    heads: &[Option<OpId>],
+    pair: (usize, usize),
+) -> Looked {
+    if differ(sig, table, state, heads, pair.0, pair.1) {
+        return Looked::Apart(pair.0, pair.1);
     }
-    if let Some((i, j)) = first_question(sig, table, state, &reading) {
-        return Ok(Looked::Question(i, j));
+    Looked::Question(pair.0, pair.1)
+}
+
+fn look_further(
+    alloc: Global,
+    sig: &Signature,
+    table: &Table,
+    state: &State,
+    reading: &Reading,
+    heads: &[Option<OpId>],
+) -> Result<Looked, NoMemory> {
+    if let Some(pair) = first_question(sig, table, state, reading) {
+        return Ok(question(sig, table, state, heads, pair));
     }
-    match bases(alloc, sig, table, state, &reading) {
-        Err(_) => match question_on_all(sig, table, state, &reading) {
-            Some((i, j)) => Ok(Looked::Question(i, j)),
+    match bases(alloc, sig, table, state, reading) {
+        Err(_) => match question_on_all(sig, table, state, reading) {
+            Some(pair) => Ok(question(sig, table, state, heads, pair)),
             None => Ok(Looked::Refused),
         },
-        Ok(lists) => match question_on_touched(sig, table, state, &reading, lists.as_slice()) {
-            Some((i, j)) => Ok(Looked::Question(i, j)),
-            None => opened(alloc, sig, table, state, &reading, lists.as_slice()),
+        Ok(lists) => match question_on_touched(sig, table, state, reading, lists.as_slice()) {
+            Some(pair) => Ok(question(sig, table, state, heads, pair)),
+            None => opened(alloc, sig, table, state, reading, lists.as_slice()),
         },
     }
 }
 
+fn look(alloc: Global, sig: &Signature, table: &Table, state: &State) -> Result<Looked, NoMemory> {
+    let reading = read(alloc, sig, table, state)?;
+    let heads = heads_of_values(alloc, sig, table, state, &reading)?;
+    match infer(alloc, sig, table, state, &reading, heads.as_slice())? {
+        Inferred::Impossible => Ok(Looked::Passed),
+        Inferred::Together(i, j) => Ok(Looked::Together(i, j)),
+        Inferred::Question(i, j) => Ok(Looked::Question(i, j)),
+        Inferred::Nothing => look_further(alloc, sig, table, state, &reading, heads.as_slice()),
+    }
+}
+
 /// How many states, frames, plans and choices there are, and whether a sum system is refused.
-fn counted(alloc: Global, sig: &Signature, problem: &Pairs) -> Result<([u64; 4], bool), NoMemory> {
+fn counted(alloc: Global, sig: &Signature, problem: &Pairs) -> Result<([u64; 5], bool), NoMemory> {
     let table = table_of(alloc, sig, problem)?;
     let mut tree = Tree::new(alloc, sig, &table)?;
-    let mut counts: [u64; 4] = [0; 4];
+    let mut counts: [u64; 5] = [0; 5];
     while let Some(state) = tree.top() {
         counts[0] = counts[0].saturating_add(1);
         match look(alloc, sig, &table, state)? {
             Looked::Question(i, j) => tree.ask(alloc, sig, &table, i, j)?,
+            Looked::Together(i, j) => {
+                counts[4] = counts[4].saturating_add(1);
+                tree.meet(alloc, sig, &table, i, j)?
+            }
+            Looked::Apart(i, j) => {
+                counts[4] = counts[4].saturating_add(1);
+                tree.part(alloc, sig, &table, i, j)?
+            }
             Looked::Passed => {
                 let _ = tree.take_top();
             }
@@ -127,7 +161,7 @@ fn all_counted(abort: &impl Abort, rt: &HostRuntime, sig: &Signature) -> Result<
         assert!(abort; is_given(alloc, sig, &problem)?);
         let (c, refused) = counted(alloc, sig, &problem)?;
         let end = if refused { ", and an end" } else { "" };
-        let _ = println!(rt; "{text}: states {}, frames {}, plans {}, choices {}{end}", c[0], c[1], c[2], c[3]);
+        let _ = println!(rt; "{text}: states {}, facts {}, frames {}, plans {}, choices {}{end}", c[0], c[4], c[1], c[2], c[3]);
     }
     Ok(())
 }

@@ -428,7 +428,7 @@ class Room:
                 break
             self.head.append(line.lstrip("-").strip())
         self.definitions = []
-        self.imports = {}
+        self.imports, self.modules = {}, {}
         record, current = None, None
         for number, line in enumerate(lines):
             words = line.split()
@@ -437,6 +437,7 @@ class Room:
             indent = len(line) - len(line.lstrip())
             if words[0] == "use" or words[:2] == ["pub", "use"]:
                 self.imports.update(imports_of(line))
+                self.modules.update(modules_of(line))
                 continue
             if record is not None and indent > record:
                 current.body.append(line)
@@ -495,6 +496,19 @@ def imports_of(text):
         if not use.group(0).endswith("."):
             found.setdefault(parts[-1], (use.group(1), use.group(2) + "." + ".".join(parts[:-1]), parts[-1]))
     return found
+
+
+def modules_of(text):
+    """What use lines bring of whole modules: the local name, with its crate and module."""
+    uses = re.finditer(r"\buse\s+Rattle\.(\w+)\.((?:specs|proofs)[^;\s{}]*)\s+as\s+(\w+)", text)
+    return {use.group(3): (use.group(1), use.group(2)) for use in uses}
+
+
+def through_modules(text, modules):
+    """What a text cites through the local names of modules."""
+    for word in re.finditer(r"(?<![\w.])(\w+)\.([^\s(){};,.\[\]⟦⟧]+)", text):
+        if word.group(1) in modules:
+            yield modules[word.group(1)] + (word.group(2),)
 
 
 def rooms(name):
@@ -725,8 +739,8 @@ class Citing:
         inside = [k for k in self.owner if self.owner[k] == key]
         text = uncommented("\n".join(line for k in [key] + inside for line in self.table[k][1].body))
         found, types = [], []
-        for token in TOKEN.findall(text):
-            place = room.imports.get(token, (key[0], key[1], token))
+        places = [room.imports.get(token, (key[0], key[1], token)) for token in TOKEN.findall(text)]
+        for place in places + list(through_modules(text, room.modules)):
             home = self.home(place)
             if home is not None and home != key and home not in found:
                 found.append(home)
@@ -846,7 +860,9 @@ def unused():
             used.add(key)
             waiting.append(key)
 
-    def cite_all(text, imports, own):
+    def cite_all(text, imports, modules, own):
+        for place in through_modules(text, modules):
+            cite(place)
         for token in TOKEN.findall(text):
             if token in imports:
                 cite(imports[token])
@@ -859,13 +875,13 @@ def unused():
         if path.is_relative_to(CRATES / name / "specs"):
             continue
         text = uncommented(read(path))
-        cite_all(without_uses(text), imports_of(text), None)
+        cite_all(without_uses(text), imports_of(text), modules_of(text), None)
         for full in re.finditer(r"crate::(specs(?:::\w+)*)::([^\s(){};,.]+)", text):
             cite((name, full.group(1).replace("::", "."), full.group(2)))
     while waiting:
         name, module, word = waiting.pop()
         room, d = table_of[(name, module, word)]
-        cite_all(uncommented("\n".join(d.body)), room.imports, (name, module))
+        cite_all(uncommented("\n".join(d.body)), room.imports, room.modules, (name, module))
     for key, (room, d) in table_of.items():
         if d.public and key not in used:
             yield str(room.path.relative_to(TOP)) + ": " + d.name + " is cited by nothing"

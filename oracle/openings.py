@@ -5,9 +5,11 @@
 
 Each line of the input is a problem as `oracle/partitions.py` reads it, in which no two nodes are in one class but the
 sides of its pairs. The program adds how many minimal solutions each sum operator has; each shared class, as the
-number of its node, with the operators that use it; and for each list of tags of the shared classes how many choices
-of minimal solutions are on the wheels, and how many of these leave no shared class a sum of a constant alone. There is
-one sort, so that a sum with an identity is neutral, and its choices take every solution without a constant; with
+number of its node, with the operators that use it and may head its value, none where it has a variable whose sort
+admits no sum; and for each list of tags of the shared classes how many choices of minimal solutions are on the wheels,
+how many of these leave no shared class a sum of a constant alone, and how many keep to what sorts ask: at most 1 of a
+class with a variable whose sort admits no sum, and at least 1 of a class with a variable whose sort does not admit the
+identity, or where there is none. These numbers are written modulo 40. There is one sort, so that a sum with an identity is neutral, and its choices take every solution without a constant; with
 `elements` there is one more sort below it, so that none is neutral, and all valid choices are on the wheels. Minimal
 solutions are found by trying all vectors with components up to 4, and choices by trying all sets of solutions.
 """
@@ -82,6 +84,10 @@ class Frame:
     def users(self, k):
         return [f for f in self.operators if self.uses(f, k)]
 
+    def heads_of(self, k):
+        """The operators that use the class and may head its value: none where a variable of it is an element."""
+        return [] if self.has_variable(k, "B") else self.users(k)
+
     def is_shared(self, k):
         return k not in self.heads and len(self.users(k)) > 1
 
@@ -92,8 +98,11 @@ class Frame:
             return False
         return tags.get(k) == f if self.is_shared(k) else True
 
+    def has_variable(self, k, letters):
+        return any(self.names[t] == k and t[0][0] in letters for t in self.nodes)
+
     def choices(self, tags, f):
-        """For each set of minimal solutions on the wheel of f whether it leaves no alias."""
+        """For each set of minimal solutions on the wheel of f whether it leaves no alias, and whether it keeps to sorts."""
         columns = self.columns[f]
         constants = [j for j, k in enumerate(columns) if self.uses(f, k) and not self.is_bound(tags, f, k)]
         required = [
@@ -102,6 +111,8 @@ class Frame:
             if self.is_bound(tags, f, k) and (axioms(f) != "unital" or self.is_shared(k))
         ]
         aliases = [j for j, k in enumerate(columns) if self.is_shared(k) and self.is_bound(tags, f, k)]
+        narrow = [j for j, k in enumerate(columns) if self.uses(f, k) and self.has_variable(k, "B")]
+        never = [j for j, k in enumerate(columns) if self.uses(f, k) and self.has_variable(k, "B" if axioms(f) == "unital" else "AB")]
         found = []
         for size in range(len(self.bases[f]) + 1):
             for taken in itertools.combinations(self.bases[f], size):
@@ -113,11 +124,10 @@ class Frame:
                 full = all(x in taken or any(x[j] for j in constants) for x in self.bases[f])
                 if axioms(f) == "unital" and NEUTRAL and not full:
                     continue
-                found.append(
-                    not any(
-                        total[j] < 2 and x[j] > 0 and any(x[c] > 0 for c in constants) for j in aliases for x in taken
-                    )
+                free = not any(
+                    total[j] < 2 and x[j] > 0 and any(x[c] > 0 for c in constants) for j in aliases for x in taken
                 )
+                found.append((free, all(total[j] <= 1 for j in narrow) and all(total[j] >= 1 for j in never)))
         return found
 
 
@@ -125,12 +135,13 @@ def shown(text):
     frame = Frame(text)
     shared = [k for k in sorted(set(frame.names.values())) if frame.is_shared(k)]
     sizes = [TABLES.digit(len(frame.bases[f])) for f in frame.operators]
-    classes = [TABLES.digit(k) + "".join(frame.users(k)) for k in shared]
+    classes = [TABLES.digit(k) + "".join(frame.heads_of(k)) for k in shared]
     lists = []
-    for tags in itertools.product(*[[*reversed(frame.users(k)), None] for k in shared]):
+    for tags in itertools.product(*[[*reversed(frame.heads_of(k)), None] for k in shared]):
         chosen = dict(zip(shared, tags))
-        found = [all(one) for one in itertools.product(*[frame.choices(chosen, f) for f in frame.operators])]
-        lists.append("".join(f or "." for f in tags) + TABLES.digit(len(found)) + TABLES.digit(sum(found)))
+        found = list(itertools.product(*[frame.choices(chosen, f) for f in frame.operators]))
+        counts = [len(found), sum(all(c[0] for c in one) for one in found), sum(all(c[1] for c in one) for one in found)]
+        lists.append("".join(f or "." for f in tags) + "".join(TABLES.digit(n % 40) for n in counts))
     return " ".join([text, "=>", *sizes, "|", *classes, "|", *lists])
 
 

@@ -1,10 +1,12 @@
 //! The program's answers, from the words and the module to the bytes that are written.
 mod check;
 mod large;
+mod meeting;
 mod terminates;
 mod unify;
 mod variants;
 mod verify;
+mod work;
 
 use crate::program;
 use fvn_cover::OpenGate;
@@ -199,6 +201,8 @@ check|X =? X
 terminates
 terminates|f : 1|a : 1
 terminates|-x
+work
+work|7
 -check
 checks";
 

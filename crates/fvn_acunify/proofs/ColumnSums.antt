@@ -1,6 +1,8 @@
 -- Sums over a column of vectors.
-use Rattle.std.proofs.Common.{◌≡◌, ℕ, ◌+◌, ◌<◌, ◌≤◌, List, [], ◌∷◌, length, take, get_or, slice_index, refl, ap, sym, ◌∙◌, arith}
+use Rattle.std.proofs.Common.{◌≡◌, ℕ, ◌+◌, ◌<◌, ◌≤◌, List, [], ◌∷◌, length, take, get_or, slice_index, All, refl, ap, sym, ◌∙◌, arith}
 use Rattle.std.specs.List.{sum_by}
+use Rattle.std.proofs.lemmas.List.{get_or_past}
+use Rattle.std.proofs.lemmas.List.Elements.{All-head, All-tail}
 use Rattle.std.proofs.lemmas.List.Sums.{sum_by-cons, sum_by_more, get_or-le-sum_by}
 use Rattle.fvn_lindio.specs.Systems.{vectors_of}
 use Rattle.fvn_lindio.specs.declared.system.Solution.{Solution}
@@ -23,3 +25,12 @@ column_sum-take_more j list i d h =
 pub part-le-column_sum : (j : ℕ) (list : List Solution) (i : ℕ) (d : Solution) → i < length list → slice_index (get_or list i d).parts j ≤ column_sum j (vectors_of list)
 part-le-column_sum j list i d h =
     omega (arith, column_sum-vectors_of j list, get_or-le-sum_by (λ v. slice_index v.parts j) list i d h)
+
+-- past the last column there is nothing
+pub column_sum-past : (n j : ℕ) (list : List Solution) → All (λ v. length v.parts ≡ n) list → n ≤ j → column_sum j (vectors_of list) ≡ 0
+column_sum-past n j [] sized past = refl
+column_sum-past n j (v ∷ list) sized past =
+    let long = All-head (λ (w : Solution). length w.parts ≡ n) v list sized in
+    let here : slice_index v.parts j ≡ 0 = get_or_past v.parts j 0 (omega (arith, long, past)) in
+    let rest = column_sum-past n j list (All-tail (λ (w : Solution). length w.parts ≡ n) v list sized) past in
+    omega (arith, column_sum-cons j v.parts (vectors_of list), here, rest)

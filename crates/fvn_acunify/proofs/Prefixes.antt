@@ -7,6 +7,7 @@ use Rattle.std.proofs.lemmas.List.Elements.{All-head, All-tail, All-cons, All-sa
 use Rattle.std.proofs.lemmas.List.Sums.{sum_by-append}
 use Rattle.fvn_lindio.specs.Systems.{vectors_of}
 use Rattle.fvn_lindio.specs.declared.system.Solution.{Solution}
+use Rattle.fvn_acunify.specs.declared.theory.ColumnBounds.{ColumnBounds}
 use Rattle.fvn_acunify.specs.ValidChoice.{IsListed, chosen, column_sum, touched}
 use Rattle.fvn_acunify.specs.inner.Prefix.{IsBounded, IsDead, IsOpen}
 use Rattle.fvn_acunify.proofs.ColumnSums.{column_sum-cons}
@@ -148,18 +149,22 @@ vector_at : (basis : List Solution) (p : ℕ) (d : Solution) → p < length basi
 vector_at basis p d within = get_or-map (λ (v : Solution). v.parts) basis p d [] within
 
 -- where the sums leave a column without what is asked, all numbers with these higher bits are out
-pub dead-from_closed : (full : Bool) (constants : List ℕ) (may_be_zero : List Bool) (basis : List Solution) (number place : ℕ) (sums : List ℕ) → IsWalked constants basis number place sums → (IsOpen constants may_be_zero (take place basis) sums → ⊥) → IsDead full constants may_be_zero basis number place
-dead-from_closed full constants may_be_zero basis number place sums walked closed b same listed =
+pub dead-from_closed : (full : Bool) (constants : List ℕ) (may_be_zero : List Bool) (bounds : ColumnBounds) (basis : List Solution) (number place : ℕ) (sums : List ℕ) → IsWalked constants basis number place sums → (IsOpen constants may_be_zero bounds (take place basis) sums → ⊥) → IsDead (IsListed full constants may_be_zero bounds (vectors_of basis)) number place
+dead-from_closed full constants may_be_zero bounds basis number place sums walked closed b same listed =
     let valid = listed.valid in
     let at = column_sum-at constants basis number place sums walked b same in
     closed (record {
       filled = λ j asked. omega (arith, at j, valid.filled j asked);
       once = λ k d h. (omega (arith, at (slice_index_or constants k d), valid.once k d h), omega (arith, at (slice_index_or constants k d), valid.once k d h));
+      bounded = record {
+        most = λ k d h. omega (arith, at (slice_index_or bounds.at_most_one k d), listed.bounded.most k d h);
+        least = λ k d h. omega (arith, at (slice_index_or bounds.at_least_one k d), listed.bounded.least k d h);
+      };
     })
 
 -- where the solution at a place touches two constants, all numbers with its bit and these higher bits are out
-pub dead-from_touched : (full : Bool) (constants : List ℕ) (may_be_zero : List Bool) (basis : List Solution) (number p : ℕ) (parts : List ℕ) (d : Solution) → p < length basis → number / 2 ^ p % 2 ≡ 1 → parts ≡ (get_or basis p d).parts → 1 < touched constants parts → IsDead full constants may_be_zero basis number p
-dead-from_touched full constants may_be_zero basis number p parts d within bit is touches b same listed =
+pub dead-from_touched : (full : Bool) (constants : List ℕ) (may_be_zero : List Bool) (bounds : ColumnBounds) (basis : List Solution) (number p : ℕ) (parts : List ℕ) (d : Solution) → p < length basis → number / 2 ^ p % 2 ≡ 1 → parts ≡ (get_or basis p d).parts → 1 < touched constants parts → IsDead (IsListed full constants may_be_zero bounds (vectors_of basis)) number p
+dead-from_touched full constants may_be_zero bounds basis number p parts d within bit is touches b same listed =
     let valid = listed.valid in
     let bit_b : b / 2 ^ p % 2 ≡ 1 = ap (λ n. n % 2) same ∙ bit in
     let lower = chosen b (vectors_of (take p basis)) in
@@ -168,8 +173,8 @@ dead-from_touched full constants may_be_zero basis number p parts d within bit i
     omega arith
 
 -- where a solution that must be taken is not, all numbers with these higher bits are out
-pub dead-from_missing : (full : Bool) (constants : List ℕ) (may_be_zero : List Bool) (basis : List Solution) (number p : ℕ) (parts : List ℕ) (d : Solution) → full ≡ true → p < length basis → number / 2 ^ p % 2 ≢ 1 → parts ≡ (get_or basis p d).parts → touched constants parts ≡ 0 → IsDead full constants may_be_zero basis number p
-dead-from_missing full constants may_be_zero basis number p parts d is_full within bit is bare b same listed =
+pub dead-from_missing : (full : Bool) (constants : List ℕ) (may_be_zero : List Bool) (bounds : ColumnBounds) (basis : List Solution) (number p : ℕ) (parts : List ℕ) (d : Solution) → full ≡ true → p < length basis → number / 2 ^ p % 2 ≢ 1 → parts ≡ (get_or basis p d).parts → touched constants parts ≡ 0 → IsDead (IsListed full constants may_be_zero bounds (vectors_of basis)) number p
+dead-from_missing full constants may_be_zero bounds basis number p parts d is_full within bit is bare b same listed =
     bit (ap (λ n. n % 2) (sym same) ∙ listed.whole is_full p (rw length-map within) (ap (touched constants) (vector_at basis p d within ∙ sym is) ∙ bare))
 
 -- from a place on every solution that must be taken is
@@ -189,8 +194,8 @@ full-from_skipped full constants basis number place p parts d e inside is other 
 ]
 
 -- a number that was walked to its last bit, with every column as asked and every solution that must be taken, is listed
-pub listed-from_open : (full : Bool) (constants : List ℕ) (may_be_zero : List Bool) (basis : List Solution) (number : ℕ) (sums : List ℕ) → IsWalked constants basis number 0 sums → IsOpen constants may_be_zero (take 0 basis) sums → IsFullFrom full constants basis number 0 → number < 2 ^ length basis → IsListed full constants may_be_zero (vectors_of basis) number
-listed-from_open full constants may_be_zero basis number sums walked all_open taken within =
+pub listed-from_open : (full : Bool) (constants : List ℕ) (may_be_zero : List Bool) (bounds : ColumnBounds) (basis : List Solution) (number : ℕ) (sums : List ℕ) → IsWalked constants basis number 0 sums → IsOpen constants may_be_zero bounds (take 0 basis) sums → IsFullFrom full constants basis number 0 → number < 2 ^ length basis → IsListed full constants may_be_zero bounds (vectors_of basis) number
+listed-from_open full constants may_be_zero bounds basis number sums walked all_open taken within =
     let same : number / 1 ≡ number = omega arith in
     let whole : higher number 0 basis ≡ chosen number (vectors_of basis) = ap (λ n. chosen n (vectors_of basis)) same in
     record {
@@ -200,12 +205,16 @@ listed-from_open full constants may_be_zero basis number sums walked all_open ta
         once = λ k d h. omega (arith, all_open.once k d h, walked.summed (slice_index_or constants k d), ap (column_sum (slice_index_or constants k d)) whole);
         apart = All-same (λ v. touched constants v ≤ 1) (chosen number (vectors_of basis)) (higher number 0 basis) (sym whole) walked.apart;
       };
+      bounded = record {
+        most = λ k d h. omega (arith, all_open.bounded.most k d h, walked.summed (slice_index_or bounds.at_most_one k d), ap (column_sum (slice_index_or bounds.at_most_one k d)) whole);
+        least = λ k d h. omega (arith, all_open.bounded.least k d h, walked.summed (slice_index_or bounds.at_least_one k d), ap (column_sum (slice_index_or bounds.at_least_one k d)) whole);
+      };
       whole = λ is_full i l bare. taken is_full i (omega arith) (let n = length-map basis (λ (v : Solution). v.parts) in omega (arith, l, n)) bare;
     }
 
 -- a jump below all numbers with the same higher bits passes no choice that is listed
-pub jump_skips_none : (full : Bool) (constants : List ℕ) (may_be_zero : List Bool) (basis : List Solution) (number place : ℕ) → IsDead full constants may_be_zero basis number place → (a : ℕ) → a ≤ number → IsListed full constants may_be_zero (vectors_of basis) a → a < number - number % 2 ^ place
-jump_skips_none full constants may_be_zero basis number place dead a upto valid =
+pub jump_skips_none : (full : Bool) (constants : List ℕ) (may_be_zero : List Bool) (bounds : ColumnBounds) (basis : List Solution) (number place : ℕ) → IsDead (IsListed full constants may_be_zero bounds (vectors_of basis)) number place → (a : ℕ) → a ≤ number → IsListed full constants may_be_zero bounds (vectors_of basis) a → a < number - number % 2 ^ place
+jump_skips_none full constants may_be_zero bounds basis number place dead a upto valid =
     elim (cases_lt a (number - number % 2 ^ place)) [
       | inl below ↦ below
       | inr above ↦ absurd (dead a (same_quotient a number (2 ^ place) (pow_pos place) above upto) valid)

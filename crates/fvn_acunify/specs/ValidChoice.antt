@@ -1,6 +1,7 @@
 -- Which choices of solutions are valid: a choice is a number whose bit i says that solution i is chosen.
 -- M. E. Stickel, A unification algorithm for associative-commutative functions, 1981.
 use Rattle.std.specs.Prelude.{◌≡◌, ℕ, ◌/◌, ◌%◌, ◌^◌, ◌<◌, ◌≤◌, ◌==◌, Bool, true, false, if◌then◌else◌, List, [], ◌∷◌, length, sum_by, count_by, nat_lt, slice_index, slice_index_or, All}
+use Rattle.fvn_acunify.specs.declared.theory.ColumnBounds.{ColumnBounds}
 
 -- the solutions that a number chooses
 abbrev pub chosen : ℕ → List (List ℕ) → List (List ℕ)
@@ -27,7 +28,13 @@ pub record IsValid (constants : List ℕ) (may_be_zero : List Bool) (basis : Lis
 abbrev pub IsFull : List ℕ → List (List ℕ) → ℕ → Type 0
 IsFull constants basis b = (i : ℕ) → i < length basis → touched constants (slice_index_or basis i []) ≡ 0 → b / 2 ^ i % 2 ≡ 1
 
--- a valid choice; where full ones alone are asked for, a full one
-pub record IsListed (full : Bool) (constants : List ℕ) (may_be_zero : List Bool) (basis : List (List ℕ)) (b : ℕ) : Type 0 where
+-- the sum of the solutions chosen is at most 1, and at least 1, in the columns where these bounds say so
+pub record IsWithin (bounds : ColumnBounds) (basis : List (List ℕ)) (b : ℕ) : Type 0 where
+  pub most : All (λ j. column_sum j (chosen b basis) ≤ 1) bounds.at_most_one
+  pub least : All (λ j. 0 < column_sum j (chosen b basis)) bounds.at_least_one
+
+-- a valid choice within the bounds; where full ones alone are asked for, a full one
+pub record IsListed (full : Bool) (constants : List ℕ) (may_be_zero : List Bool) (bounds : ColumnBounds) (basis : List (List ℕ)) (b : ℕ) : Type 0 where
   pub valid : IsValid constants may_be_zero basis b
+  pub bounded : IsWithin bounds basis b
   pub whole : full ≡ true → IsFull constants basis b

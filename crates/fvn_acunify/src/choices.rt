@@ -3,18 +3,19 @@ ghost use Rattle.std.specs.Prelude.{◌≡◌, ◌↔◌, ℕ, ◌≤◌, ◌^�
 ghost use Rattle.fvn_lindio.specs.Systems.{vectors_of};
 
 use crate::prefix::dead_place;
-use crate::theory::{OneFault, OneTheory};
+use crate::theory::{ColumnBounds, OneFault, OneTheory};
 use fvn_base::Seq;
 use fvn_lindio::Solution;
 use std::alloc::Global;
 use std::marker::Model;
 
 /// The minimal solutions of a theory's system, and the choices among them that are listed and still
-/// to come: all valid ones, or those that are full. Its calls take no memory.
+/// to come: all valid ones, or those that are full, or within bounds. Its calls take no memory.
 #[derive(Drop)]
 pub struct Choices {
     constants: Vec<usize>,
     may_be_zero: Vec<bool>,
+    bounds: ColumnBounds,
     basis: Seq<Solution>,
     full: bool,
     sums: Vec<u64>,
@@ -31,6 +32,7 @@ impl Model for Choices {
     ghost view = { λ c. record {
       constants = c.constants.items;
       may_be_zero = c.may_be_zero.items;
+      bounds = c.bounds;
       basis = c.basis;
       full = c.full;
       below = c.below;
@@ -42,7 +44,7 @@ impl Model for Choices {
 }
 
 impl Choices {
-    ghost use Rattle.fvn_acunify.specs.Cursor.{Pending};
+    ghost use Rattle.fvn_acunify.specs.Cursor.{Pending, unbounded};
     ghost use Rattle.fvn_acunify.specs.inner.Prefix.{IsBounded};
     ghost use Rattle.fvn_acunify.specs.ValidChoice.{IsListed};
 
@@ -57,6 +59,7 @@ impl Choices {
         ensures ok { IfOk result (λ c. c ≡ record {
           constants = theory.now.constants;
           may_be_zero = theory.now.may_be_zero;
+          bounds = unbounded;
           basis = basis;
           full = false;
           below = 2 ^ length basis;
@@ -65,11 +68,13 @@ impl Choices {
     {
         let constants = Vec::from_slice(alloc, theory.constants.as_slice())?;
         let may_be_zero = Vec::from_slice(alloc, theory.may_be_zero.as_slice())?;
+        let bounds = ColumnBounds::none(alloc);
         let sums = vec![in alloc; 0u64; may_be_zero.len()]?;
         let below = 1 << basis.len();
         Ok(Choices {
             constants,
             may_be_zero,
+            bounds,
             basis,
             full: false,
             sums,
@@ -100,6 +105,7 @@ impl Choices {
                 self.full,
                 self.constants.as_slice(),
                 self.may_be_zero.as_slice(),
+                &self.bounds,
                 self.basis.as_slice(),
                 number,
                 self.sums.as_mut_slice(),
@@ -119,8 +125,8 @@ impl Choices {
     pub fn again(&mut self)
         ensures restarted { self.new ≡ record self.old { below = 2 ^ length self.old.basis } }
         ensures all_pending { (b : ℕ) →
-            IsListed self.new.full self.new.constants self.new.may_be_zero (vectors_of self.new.basis) b
-            → Pending self.new b }
+            IsListed self.new.full self.new.constants self.new.may_be_zero self.new.bounds
+            (vectors_of self.new.basis) b → Pending self.new b }
     {
         self.below = 1 << self.basis.len();
     }
@@ -131,6 +137,14 @@ impl Choices {
         ensures { self.new ≡ record self.old { full = true; below = 2 ^ length self.old.basis } }
     {
         self.full = true;
+        self.again();
+    }
+
+    /// Lists from now on only choices within these bounds, and goes back to the start.
+    pub fn list_within(&mut self, bounds: ColumnBounds)
+        ensures { self.new ≡ record self.old { bounds = bounds; below = 2 ^ length self.old.basis } }
+    {
+        self.bounds = bounds;
         self.again();
     }
 }

@@ -10,4 +10,4 @@ mod theory;
 pub use choices::Choices;
 pub use laws::chosen_by_bits;
 pub use solve::solve_one;
-pub use theory::{OneFault, OneTheory};
+pub use theory::{ColumnBounds, OneFault, OneTheory};

@@ -2,8 +2,9 @@
 ghost use Rattle.std.specs.Prelude.{◌≡◌, ◌↔◌, ℕ, ◌+◌, ◌^◌, ◌<◌, ◌≤◌, length, slice_index, slice_index_or, true, false, All, IsTrue, IfSome, IfNone};
 ghost use Rattle.fvn_lindio.specs.Systems.{vectors_of};
 ghost use Rattle.fvn_acunify.specs.ValidChoice.{IsListed, touched};
-ghost use Rattle.fvn_acunify.specs.inner.Prefix.{CanBeFilled, CanBeOne, IsBounded, IsDead, IsOpen};
+ghost use Rattle.fvn_acunify.specs.inner.Prefix.{AreBoundsOpen, CanBeFilled, CanBeOne, IsBounded, IsDead, IsOpen};
 
+use crate::theory::ColumnBounds;
 use fvn_lindio::Solution;
 
 /// The highest place from which on the bits of the number rule out every choice, or None where the
@@ -12,6 +13,7 @@ pub fn dead_place(
     full: bool,
     constants: &[usize],
     may_be_zero: &[bool],
+    bounds: &ColumnBounds,
     basis: &[Solution],
     number: u32,
     sums: &mut [u64],
@@ -21,13 +23,14 @@ pub fn dead_place(
     requires within { number < 2 ^ length basis.now }
 
     ensures place { IfSome result (λ place. place ≤ length basis.now) }
-    ensures dead { IfSome result (IsDead full constants.now may_be_zero.now basis.now number) }
+    ensures dead { IfSome result (IsDead (IsListed full constants.now may_be_zero.now
+        bounds.now (vectors_of basis.now)) number) }
     ensures listed { IfNone result (IsListed full constants.now may_be_zero.now
-        (vectors_of basis.now) number) }
+        bounds.now (vectors_of basis.now) number) }
 {
     sums.fill(0);
     let mut place = basis.len();
-    if !is_open(constants, may_be_zero, basis, sums) {
+    if !is_open(constants, may_be_zero, bounds, basis, sums) {
         return Some(place);
     }
     while place > 0 {
@@ -41,7 +44,7 @@ pub fn dead_place(
         } else if is_asked(full, constants, basis[place].parts.as_slice()) {
             return Some(place);
         }
-        if !is_open(constants, may_be_zero, &basis[..place], sums) {
+        if !is_open(constants, may_be_zero, bounds, &basis[..place], sums) {
             return Some(place);
         }
     }
@@ -79,12 +82,79 @@ fn add(sums: &mut [u64], parts: &[u32])
 }
 
 /// Whether every column can still get what is asked, with any of the lower solutions.
-fn is_open(constants: &[usize], may_be_zero: &[bool], lower: &[Solution], sums: &[u64]) -> bool
+fn is_open(
+    constants: &[usize],
+    may_be_zero: &[bool],
+    bounds: &ColumnBounds,
+    lower: &[Solution],
+    sums: &[u64],
+) -> bool
     requires bounded { IsBounded (length may_be_zero.now) constants.now lower.now }
     requires room { length sums.now ≡ length may_be_zero.now }
-    ensures { IsTrue result ↔ IsOpen constants.now may_be_zero.now lower.now sums.now }
+    ensures { IsTrue result ↔ IsOpen constants.now may_be_zero.now bounds.now lower.now sums.now }
 {
+    if !are_bounds_open(bounds, lower, sums) {
+        return false;
+    }
     are_constants_open(constants, lower, sums) && are_columns_open(may_be_zero, lower, sums)
+}
+
+/// Whether the bounds can still be kept, with any of the lower solutions.
+fn are_bounds_open(bounds: &ColumnBounds, lower: &[Solution], sums: &[u64]) -> bool
+    requires { All (λ v. length v.parts ≡ length sums.now) lower.now }
+    ensures { IsTrue result ↔ AreBoundsOpen bounds.now lower.now sums.now }
+{
+    if !are_within(bounds.at_most_one.as_slice(), sums) {
+        return false;
+    }
+    are_reached(bounds.at_least_one.as_slice(), lower, sums)
+}
+
+/// Whether each of these columns has at most 1.
+fn are_within(at_most_one: &[usize], sums: &[u64]) -> bool
+    ensures { IsTrue result ↔ All (λ j. slice_index sums.now j ≤ 1) at_most_one.now }
+{
+    for j in at_most_one {
+        let sum = sum_in(sums, *j);
+        if sum > 1 {
+            return false;
+        }
+    }
+    true
+}
+
+/// Whether each of these columns is above zero, or can be with one of the lower solutions.
+fn are_reached(at_least_one: &[usize], lower: &[Solution], sums: &[u64]) -> bool
+    requires { All (λ v. length v.parts ≡ length sums.now) lower.now }
+    ensures { IsTrue result ↔ All (CanBeFilled lower.now sums.now) at_least_one.now }
+{
+    for j in at_least_one {
+        if !is_reached(lower, sums, *j) {
+            return false;
+        }
+    }
+    true
+}
+
+/// The same of one column; one that there is not cannot be.
+fn is_reached(lower: &[Solution], sums: &[u64], j: usize) -> bool
+    requires { All (λ v. length v.parts ≡ length sums.now) lower.now }
+    ensures { IsTrue result ↔ CanBeFilled lower.now sums.now j }
+{
+    if j >= sums.len() {
+        return false;
+    }
+    is_fillable(lower, sums, j)
+}
+
+/// The sum in a column; where there is none, 0.
+fn sum_in(sums: &[u64], j: usize) -> u64
+    ensures { result ≡ slice_index sums.now j }
+{
+    if j < sums.len() {
+        return sums[j];
+    }
+    0
 }
 
 /// Whether every constant column has at most 1, and has or can get it.

@@ -5,7 +5,7 @@ ghost use Rattle.fvn_lindio.specs.Systems.{IsMinimal, rows_of, vectors_of};
 ghost use Rattle.fvn_lindio.specs.declared.system.LinFault.{LinFault as Refusal};
 ghost use Rattle.fvn_acunify.specs.Theory.{IsOneTheory, IsRefusal};
 ghost use Rattle.fvn_acunify.specs.ValidChoice.{IsValid};
-ghost use Rattle.fvn_acunify.specs.Cursor.{Pending};
+ghost use Rattle.fvn_acunify.specs.Cursor.{Pending, unbounded};
 
 use crate::choices::Choices;
 use crate::theory::{OneFault, OneTheory};
@@ -26,6 +26,7 @@ pub fn solve_one(alloc: Global, theory: &OneTheory) -> Result<Choices, OneFault>
     ensures constants { IfOk result (λ c. c.constants ≡ theory.now.constants) }
     ensures may_be_zero { IfOk result (λ c. c.may_be_zero ≡ theory.now.may_be_zero) }
     ensures every_valid { IfOk result (λ c. c.full ≡ false) }
+    ensures bounds { IfOk result (λ c. c.bounds ≡ unbounded) }
     ensures all_pending { IfOk result (λ c. (b : ℕ) →
         IsValid theory.now.constants theory.now.may_be_zero (vectors_of c.basis) b → Pending c b) }
 

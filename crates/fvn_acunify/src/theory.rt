@@ -1,7 +1,10 @@
 //! What is asked of a choice of solutions, and why there is none to be had.
+ghost use Rattle.std.specs.Prelude.{◌≡◌};
+ghost use Rattle.fvn_acunify.specs.Cursor.{unbounded};
+
 use fvn_base::Seq;
 use fvn_lindio::{LinFault, System};
-use std::alloc::AllocError;
+use std::alloc::{AllocError, Global};
 use thiserror::Error;
 
 /// A system, and what is asked of the sum of the solutions that are chosen.
@@ -15,6 +18,27 @@ pub struct OneTheory {
     pub constants: Seq<usize>,
     /// For each column whether it may be zero in the sum.
     pub may_be_zero: Seq<bool>,
+}
+
+/// What is asked of the sum of the solutions that are chosen besides.
+#[derive(Drop)]
+pub struct ColumnBounds {
+    /// Columns in which the sum is at most 1.
+    pub at_most_one: Seq<usize>,
+    /// Columns in which the sum is at least 1.
+    pub at_least_one: Seq<usize>,
+}
+
+impl ColumnBounds {
+    /// No bounds.
+    pub fn none(alloc: Global) -> ColumnBounds
+        ensures { result ≡ unbounded }
+    {
+        ColumnBounds {
+            at_most_one: Seq::new(alloc),
+            at_least_one: Seq::new(alloc),
+        }
+    }
 }
 
 /// Why a theory has no choices.

@@ -1,5 +1,6 @@
 -- A search that goes on, and one that ends.
-use Rattle.std.proofs.Common.{◌≡◌, ◌<◌, ◌⊎◌, ℕ, List, length, ◌∙◌, subst, ap, inl, inr}
+use Rattle.std.proofs.Common.{◌≡◌, ◌<◌, ◌≤◌, ◌⊎◌, ℕ, List, [], ◌∷◌, length, ◌∙◌, refl, sym, subst, ap, inl, inr, arith, All}
+use Rattle.std.proofs.lemmas.List.Elements.{All-nil, All-cons, All-weaker}
 use Rattle.fvn_terms.specs.declared.plain.Var.{Var}
 use Rattle.fvn_terms.specs.declared.declarations.Declarations.{Declarations}
 use Rattle.fvn_terms.specs.Substitution.{Substitution}
@@ -16,24 +17,46 @@ use Rattle.fvn_combine_drawing.specs.OnKinds.{IsGivenOnKinds}
 use Rattle.fvn_combine.specs.Search.{Search}
 use Rattle.fvn_combine.specs.Advancing.{IsOf, IsToCome, IsGivenNext}
 use Rattle.fvn_cover.specs.declared.variant.Variant.{Variant}
-use Rattle.fvn_axunify.specs.inner.Members.{AreKept, IsReached, IsWithAll}
+use Rattle.fvn_axunify.specs.inner.Members.{IsKept, AreKept, IsReached, IsWithAll}
 use Rattle.fvn_axunify.specs.inner.Nexts.{IsLast}
-use Rattle.fvn_axunify.specs.inner.Found.{IsFound}
+use Rattle.fvn_axunify.specs.inner.Found.{IsFound, IsKeptWhole, IsRun, EndsSo, IsRunToEnd}
+
+-- a search that has given nothing, of which nothing is kept
+module _ (d : Declarations) (given : Pairs) (vars : List Var) (kept : List Variant) (none : kept ≡ []) where
+  pub kept_none : (first : ℕ) → AreKept d given vars first kept
+  kept_none first = subst (AreKept d given vars first) (sym none) (record {
+    members = All-nil (IsKept d given vars first);
+    apart = λ i j e l n. absurd (omega (arith, n));
+  })
+
+  pub few_none : (most : ℕ) → 1 ≤ most → length kept < most
+  few_none most some = let n = ap length none in omega (arith, n, some)
+
+  pub run_begun : (start : Search) → IsRun d given vars start start kept
+  run_begun start = record { gave = []; in_turn = refl; whole = All-nil (IsKeptWhole d given vars kept) }
+
+-- what a search did last
+module _ (d : Declarations) (given : Pairs) (vars : List Var) where
+  pub ends_so : (last now : Search) (end : SolveEnd) → IsLast last now end → EndsSo d given vars last now end
+  ends_so last now Complete h = h
+  ends_so last now (Basis f system) h = h
+  ends_so last now Unifiers h = absurd h
+  ends_so last now (Size cause) h = h
 
 module _ (d : Declarations) (given : Pairs) (vars : List Var) (first most size : ℕ) (m after : Search) (of : IsOf d given first size m) where
   -- an end, with its cause
   pub end_found : (kept : List Variant) → AreKept d given vars first kept → length kept < most →
       ((u : Substitution) → IsUnifier d (problem_of given) u → IsReached d given vars kept u ⊎ IsToCome m u) →
       (end : SolveEnd) → IsLast m after end → IsFound d given vars first most size kept end
-  end_found kept are few all Complete last = record { are = are; end_of = (few, λ u h. elim (all u h) [ inl r ↦ r | inr t ↦ absurd (last u t) ]) }
+  end_found kept are few all Complete last = record { are = are; end_of = (few, λ u h. elim (all u h) [ inl r ↦ r | inr t ↦ absurd (last.none u t) ]) }
   end_found kept are few all (Basis f system) last =
-      record { are = are; end_of = (few, subst (λ g. IsBasisCause d g f system) of.problem (subst (λ e. IsBasisCause e m.combining.given f system) of.declarations last)) }
+      record { are = are; end_of = (few, subst (λ g. IsBasisCause d g f system) of.problem (subst (λ e. IsBasisCause e m.combining.given f system) of.declarations last.0)) }
   end_found kept are few all Unifiers last = absurd last
   end_found kept are few all (Size (Problem p)) last = absurd last
   end_found kept are few all (Size (Binding list)) last =
       record {
         are = are;
-        end_of = (few, subst (λ n. IsTooLarge d given n list.bindings) of.limit (subst (λ g. IsTooLarge d g m.combining.size list.bindings) of.problem (subst (λ e. IsTooLarge e m.combining.given m.combining.size list.bindings) of.declarations last)));
+        end_of = (few, subst (λ n. IsTooLarge d given n list.bindings) of.limit (subst (λ g. IsTooLarge d g m.combining.size list.bindings) of.problem (subst (λ e. IsTooLarge e m.combining.given m.combining.size list.bindings) of.declarations last.0)));
       }
   end_found kept are few all (Size (Term t)) last = absurd last
 
@@ -68,3 +91,23 @@ module _ (d : Declarations) (given : Pairs) (vars : List Var) (first most size :
       where
         here : CoversOnKinds m.combining.declarations (variables_of (problem_of m.combining.given)) (value g) u → CoversOnKinds d (variables_of (problem_of given)) (value g) u
         here c = subst (λ p. CoversOnKinds d (variables_of (problem_of p)) (value g) u) of.problem (subst (λ e. CoversOnKinds e (variables_of (problem_of m.combining.given)) (value g) u) of.declarations c)
+
+    -- what is kept whole stays so
+    still_whole : (kept with_g : List Variant) → IsWithAll d given vars first most kept g with_g → (gave : List Bindings) → All (IsKeptWhole d given vars kept) gave → All (IsKeptWhole d given vars with_g) gave
+    still_whole kept with_g w = All-weaker (IsKeptWhole d given vars kept) (IsKeptWhole d given vars with_g) (λ e h u i c. w.grows u (h u i c))
+
+    -- below the limit what is given now is kept whole too
+    pub run_on : (start : Search) (kept with_g : List Variant) → IsWithAll d given vars first most kept g with_g → length with_g < most → IsRun d given vars start m kept → IsRun d given vars start after with_g
+    run_on start kept with_g w few run = record {
+      gave = g ∷ run.gave;
+      in_turn = (m, run.in_turn, next);
+      whole = All-cons (IsKeptWhole d given vars with_g) g run.gave (w.covered few) (still_whole kept with_g w run.gave run.whole);
+    }
+
+    -- at the limit the search ends with what is given now
+    pub run_full : (start : Search) (kept with_g : List Variant) → IsWithAll d given vars first most kept g with_g → IsRun d given vars start m kept → IsRunToEnd d given vars start after with_g Unifiers
+    run_full start kept with_g w run = record {
+      last = m;
+      run = record { gave = run.gave; in_turn = run.in_turn; whole = still_whole kept with_g w run.gave run.whole };
+      ended = (g, next);
+    }

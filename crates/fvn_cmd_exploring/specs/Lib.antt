@@ -1,3 +1,4 @@
 -- The words of explorations in a module.
 pub mod Searches
 pub mod Ends
+pub mod Bounds

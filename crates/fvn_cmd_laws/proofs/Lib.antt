@@ -5,3 +5,4 @@ pub mod Verified
 pub mod Unified
 pub mod Weighed
 mod Explored
+mod Reaching

@@ -4,7 +4,8 @@ use Rattle.std.specs.Prelude.{All}
 use Rattle.std.proofs.lemmas.List.Elements.{All-head}
 use Rattle.fvn_base.specs.declared.limits.TheConstants.{UNIFIERS}
 use Rattle.fvn_terms.specs.Substitution.{Substitution}
-use Rattle.fvn_terms.specs.CompleteSets.{IsCompleteSet}
+use Rattle.fvn_terms.specs.CompleteSets.{IsCompleteSet, IsApart}
+use Rattle.fvn_terms.proofs.Instances.{shortest_unifiers}
 use Rattle.fvn_module.specs.Contents.{Contents}
 use Rattle.fvn_problems.specs.declared.problem.Problem.{Problem}
 use Rattle.fvn_answer.specs.declared.end.End.{End}
@@ -13,11 +14,10 @@ use Rattle.fvn_cmd.specs.declared.status.Status.{Status}
 use Rattle.fvn_cmd.specs.declared.status.Status.TheVariants.{Nothing}
 use Rattle.fvn_cmd.specs.Statuses.{IsAnswering}
 use Rattle.fvn_cmd.specs.Headline.{AreAll}
-use Rattle.fvn_cmd_unify.specs.Asked.{Unifies, IsInstanceOf, CannotBeUnified, unifiers_of}
+use Rattle.fvn_cmd_unify.specs.Asked.{pairs_of, Unifies, IsInstanceOf, CannotBeUnified, unifiers_of}
 use Rattle.fvn_cmd_unify.specs.Ends.{status_of_end, IsCauseOf, StaysWithinBounds}
 use Rattle.fvn_cmd_unify.specs.Solutions.{Found, IsWhole, IsSolution}
-use Rattle.fvn_cmd_unify.specs.Replies.{IsAnswer}
-use Rattle.fvn_cmd_laws.specs.Unified.{IsNothingExact, HasFewUnifiers}
+use Rattle.fvn_cmd_laws.specs.Unified.{IsNothingExact, HasFewUnifiers, IsCountOfUnifiers}
 use Rattle.fvn_cmd_laws.specs.Laws.{AnswersAreExact}
 
 pub end_answering : (e : End) → IsAnswering (status_of_end e)
@@ -105,26 +105,32 @@ module _ (m : Contents) (p : Problem) where
       few = few-end found.end refl solution.cause
 
   -- Nothing comes where it should
-  nothing : (s : Status) (t : List ℕ) (a : IsAnswer m p s t) → IsNothingExact m p s a.found
-  nothing s t a = record {
-    end_is = (λ e. end_nothing a.found.end (sym a.status_is ∙ e), λ e. a.status_is ∙ ap status_of_end e);
-    only = λ e. none_found a.found a.solution (end_nothing a.found.end (sym a.status_is ∙ e));
-    no_line = no_values a.found.values a.solution.headline.sound;
+  nothing : (found : Found) → IsSolution m p found → (s : Status) → s ≡ status_of_end found.end → IsNothingExact m p s found
+  nothing found solution s is = record {
+    end_is = (λ e. end_nothing found.end (sym is ∙ e), λ e. is ∙ ap status_of_end e);
+    only = λ e. none_found found solution (end_nothing found.end (sym is ∙ e));
+    no_line = no_values found.values solution.headline.sound;
   }
 
-  -- each of two complete answers is no longer than the other
-  one_count : (s u : Status) (t v : List ℕ) (a : IsAnswer m p s t) (b : IsAnswer m p u v) (n k : ℕ) → a.found.end ≡ Complete n → b.found.end ≡ Complete k → n ≡ k
-  one_count s u t v a b n k e f =
-      let one : n ≡ length a.found.values = subst (IsCauseOf m p a.found.values) e a.solution.cause in
-      let other : k ≡ length b.found.values = subst (IsCauseOf m p b.found.values) f b.solution.cause in
-      let less = (all-of a.found a.solution n e).shortest b.found.values (complete-set b.found b.solution k f) in
-      let more = (all-of b.found b.solution k f).shortest a.found.values (complete-set a.found a.solution n e) in
-      omega (arith, one, other, less, more)
+  -- a complete answer is no longer than another complete set, and where none of that is an instance of another, no shorter
+  count : (found : Found) → IsSolution m p found → (n : ℕ) → found.end ≡ Complete n → IsCountOfUnifiers m p n
+  count found solution n e values complete apart =
+      let told : n ≡ length found.values = subst (IsCauseOf m p found.values) e solution.cause in
+      let less = (all-of found solution n e).shortest values complete in
+      let more = shortest_unifiers m.signature p.vars (pairs_of p.pairs) values complete apart found.values (complete-set found solution n e) in
+      omega (arith, told, less, more)
+
+  -- two complete answers are equally long
+  one_count : (found other : Found) → IsSolution m p found → IsSolution m p other → (n k : ℕ) → found.end ≡ Complete n → other.end ≡ Complete k → n ≡ k
+  one_count found other a b n k e f =
+      let told : k ≡ length other.values = subst (IsCauseOf m p other.values) f b.cause in
+      sym (told ∙ count found a n e other.values (complete-set other b k f) b.headline.apart)
 
 pub answers_exact : AnswersAreExact
 answers_exact = record {
   nothing = nothing;
-  whole = λ m p s t a. whole m p a.found a.solution;
-  few = λ m p s t a. few m p a.found a.solution;
+  whole = whole;
+  few = few;
+  count = count;
   one_count = one_count;
 }

@@ -3,4 +3,5 @@ pub mod Unified
 pub mod Verified
 pub mod Weighed
 pub mod Explored
+pub mod Reaching
 pub mod Laws

@@ -1,9 +1,9 @@
 -- What an answer to `unify` promises, in words over its status and what was found.
-use Rattle.std.specs.Prelude.{◌≡◌, ◌↔◌, List, [], length, All}
+use Rattle.std.specs.Prelude.{◌≡◌, ◌↔◌, ℕ, List, [], length, All}
 use Rattle.fvn_base.specs.declared.limits.TheConstants.{UNIFIERS}
 use Rattle.fvn_terms.specs.declared.plain.OpId.{OpId}
 use Rattle.fvn_terms.specs.Substitution.{Substitution}
-use Rattle.fvn_terms.specs.CompleteSets.{IsApart}
+use Rattle.fvn_terms.specs.CompleteSets.{IsCompleteSet, IsApart}
 use Rattle.fvn_flat.specs.Drawn.{IsDrawn}
 use Rattle.fvn_module.specs.Contents.{Contents}
 use Rattle.fvn_problems.specs.declared.problem.Problem.{Problem}
@@ -34,3 +34,9 @@ module _ (m : Contents) (p : Problem) where
     pub small : IsTooLarge m.signature (AreFlattened m p) → ⊥
     pub basis : (f : OpId) → HasNoBasis m.signature (AreFlattened m p) f → ⊥
     pub few : HasTooManyUnifiers → ⊥
+
+  -- each complete set of its unifiers of which none is an instance of another has so many
+  abbrev pub IsCountOfUnifiers : ℕ → Type 0
+  IsCountOfUnifiers n =
+      (values : List Substitution) → IsCompleteSet (Unifies m p) (IsInstanceOf m p) values → IsApart (IsInstanceOf m p) values →
+      length values ≡ n

@@ -1,5 +1,6 @@
 //! Laws of answers, each the contract of a function that does nothing.
 ghost use Rattle.fvn_cmd_laws.specs.Laws.{
+  AmpleLimitsAreNotTold,
   AnswersAreExact,
   ExploredAnswersAreExact,
   SortsAreToldOnce,
@@ -25,8 +26,8 @@ pub fn verdicts_are_exact()
     verdicts_agree();
 }
 
-/// `complete 0` comes exactly where nothing unifies, all unifiers are found where no bound is met, and two complete
-/// answers to a problem have equally many lines.
+/// `complete 0` comes exactly where nothing unifies, all unifiers are found where no bound is met, and a complete answer to
+/// a problem has as many as every complete set of which none is an instance of another.
 pub fn answers_are_exact()
     ensures { AnswersAreExact }
 {}
@@ -39,4 +40,9 @@ pub fn weighings_are_exact()
 /// What the status of answers over an exploration tells is exact.
 pub fn explored_answers_are_exact()
     ensures { ExploredAnswersAreExact }
+{}
+
+/// No answer ends at a limit of levels or of variants that is large enough.
+pub fn ample_limits_are_not_told()
+    ensures { AmpleLimitsAreNotTold }
 {}

@@ -4,6 +4,6 @@
 mod laws;
 
 pub use laws::{
-    answers_are_exact, explored_answers_are_exact, sorts_are_told_once, verdicts_are_exact,
-    weighings_are_exact,
+    ample_limits_are_not_told, answers_are_exact, explored_answers_are_exact, sorts_are_told_once,
+    verdicts_are_exact, weighings_are_exact,
 };

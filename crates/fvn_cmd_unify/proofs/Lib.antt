@@ -5,5 +5,5 @@ mod Listing
 pub mod Solving
 pub mod Counting
 mod Replied
-mod Denoted
-mod Shown
+pub mod Denoted
+pub mod Shown

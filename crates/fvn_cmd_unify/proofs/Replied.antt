@@ -23,6 +23,7 @@ use Rattle.fvn_cmd.specs.declared.answer.Answer.{Answer}
 use Rattle.fvn_cmd.specs.Texts.{bytes_of}
 use Rattle.fvn_cmd.specs.Refusing.{IsRefusalLine, IsProblemRefusalLine}
 use Rattle.fvn_cmd_unify.specs.Ends.{status_of_end}
+use Rattle.fvn_cmd_unify.specs.Solutions.{IsEndOfSearch}
 use Rattle.fvn_cmd_unify.specs.Replies.{IsAnswer, IsUnifyReply}
 use Rattle.fvn_cmd_unify.specs.inner.Told.{end_told, AreLinesOfBindings}
 use Rattle.fvn_cmd_unify.specs.inner.Steps.{IsSolved, RepliesIn}
@@ -32,6 +33,13 @@ use Rattle.fvn_cmd_unify.proofs.Counting.{shown-lines}
 module _ (m : Contents) (p : Problem) (kinded : All (AreOfOneKind m.signature) p.pairs) (vars : HasVariables m.signature p) (r : Solved) (s : IsSolved m p r) (unifiers : List Bindings) (are : unifiers ≡ r.unifiers) where
   pub told-fits_end : (end : End) → end ≡ end_told r.end (length unifiers) → FitsEnd m.signature end
   told-fits_end end told = subst (FitsEnd m.signature) (sym (told ∙ ap (λ l. end_told r.end (length l)) are)) (solved-fits m p kinded vars r s)
+
+  pub end-of_search : AnswersToFlattenedPairs → (d : Declarations) → d ≡ m.signature → FitsKinds d → (end : End) → end ≡ end_told r.end (length unifiers) → IsEndOfSearch m p end
+  end-of_search law d signature_is fits end told = record {
+    found = told-found m p kinded vars r s;
+    solution = solved-solution m p kinded vars r s law (subst FitsKinds signature_is fits);
+    end_is = told ∙ ap (λ l. end_told r.end (length l)) are;
+  }
 
   pub answer-told : AnswersToFlattenedPairs → EqualLinesAreInstances → (d : Declarations) → d ≡ m.signature → FitsKinds d → (lines : List Text) → AreLinesOfBindings m p unifiers lines →
       (end : End) → end ≡ end_told r.end (length unifiers) → (text : Text) → IsAnswerText m.signature m.names lines end text → (status : Status) → status ≡ status_of_end end → IsAnswer m p status text

@@ -1,4 +1,4 @@
--- What is promised of unifiers holds of the lines that are shown.
+-- What is promised of answers holds of what the lines that are shown denote.
 use Rattle.std.proofs.Common.{◌≢◌, List, [], ◌∷◌, refl, sym, ◌∙◌, subst, inl, inr}
 use Rattle.std.specs.Prelude.{Any, Contains}
 use Rattle.std.specs.List.{AllZip}
@@ -8,15 +8,17 @@ use Rattle.fvn_base.proofs.Pigeonhole.{AllPairs-tail, AllPairs-first}
 use Rattle.fvn_terms.specs.Substitution.{Substitution}
 use Rattle.fvn_terms.specs.CompleteSets.{IsApart}
 use Rattle.fvn_terms.proofs.Instances.{IsInstance-trans}
+use Rattle.fvn_forms.specs.FitsKinds.{FitsKinds}
 use Rattle.fvn_syntax.specs.Pieces.{Text}
 use Rattle.fvn_problems.specs.declared.problem.Problem.{Problem}
 use Rattle.fvn_problems.specs.Laws.{ProblemsAreKinded}
+use Rattle.fvn_problems.specs.Problems.{HasVariables}
 use Rattle.fvn_module.specs.Contents.{Contents}
 use Rattle.fvn_module_loading.specs.Laws.{LoadedModulesAreGood}
-use Rattle.fvn_answer.specs.Denoting.{Denotes}
-use Rattle.fvn_cmd.specs.Headline.{IsHeadlineOfLines}
-use Rattle.fvn_cmd_unify.specs.Asked.{on_variables, Unifies, IsInstanceOf, DenotesOnVariables, unifiers_of}
-use Rattle.fvn_cmd_unify.specs.Solutions.{Found, IsWhole, IsSolution, IsLineOf, Shows}
+use Rattle.fvn_answer.specs.Answers.{AreInByteOrder}
+use Rattle.fvn_cmd.specs.Headline.{Promise, IsHeadline, IsHeadlineOfLines}
+use Rattle.fvn_cmd_unify.specs.Asked.{on_variables, Unifies, DenotesOnVariables, unifiers_of}
+use Rattle.fvn_cmd_unify.specs.Solutions.{IsWhole, IsLineOf}
 use Rattle.fvn_cmd_unify.specs.Laws.{LinesDenoteUnifiers, ShownLinesKeepThePromise}
 use Rattle.fvn_cmd_unify.proofs.Asking.{module-names}
 use Rattle.fvn_cmd_unify.proofs.Counting.{beside}
@@ -91,61 +93,79 @@ module _ {A B : Type 0} (R : A → B → Type 0) (Below : A → A → Type 0) wh
     ]
   ]
 
-module _ (m : Contents) (p : Problem) where
-  -- what a line denotes is a unifier, and it and the unifier whose line it is are instances of each other
-  pub record IsTwin (s a : Substitution) : Type 0 where
-    pub unifies : Unifies m p a
-    pub below : IsInstanceOf m p a s
-    pub above : IsInstanceOf m p s a
+-- what is promised of answers, whatever an answer is, holds of the lines that show them
+module _ {A : Type 0} (promise : Promise A) where
+  -- what a line denotes is an answer, and it and the answer whose line it is are instances of each other
+  pub record IsTwin (s a : A) : Type 0 where
+    pub one : promise.IsOne a
+    pub below : promise.IsBelow a s
+    pub above : promise.IsBelow s a
 
-  module _ (twins : (s : Substitution) → Unifies m p s → (line : Text) → IsLineOf m p s line → (r : Substitution) → Denotes m.signature m.names p.names.texts p.vars line r → IsTwin s (on_variables p.vars r)) (found : Found) (solution : IsSolution m p found) (text : Text) (shown : Shows m p found text) where
+  -- each line denotes something, which is a twin of the answer whose line it is; and instances chain
+  pub record HasTwins (IsLine : A → Text → Type 0) : Type 0 where
+    pub transitive : (a b c : A) → promise.IsBelow a b → promise.IsBelow b c → promise.IsBelow a c
+    pub denotes : (s : A) (line : Text) → IsLine s line → (a : A) × promise.Denotes line a
+    pub twins : (s : A) → promise.IsOne s → (line : Text) → IsLine s line → (a : A) → promise.Denotes line a → IsTwin s a
+
+  module _ (IsLine : A → Text → Type 0) (has : HasTwins IsLine) (IsWhole : Type 0) (values : List A) (headline : IsHeadline promise IsWhole values) (given shown : List Text) (lines : AllZip IsLine values given) (order : AreInByteOrder given shown) where
     -- a line that is shown is a line of some value
-    given : (line : Text) → Contains shown.answer.lines line → Contains shown.lines line
-    given line c = (shown.answer.in_order.exact line).0 c
+    from_shown : (line : Text) → Contains shown line → Contains given line
+    from_shown line c = (order.exact line).0 c
 
-    unifies : (s : Substitution) → Contains found.values s → Unifies m p s
-    unifies s c = All-contains (Unifies m p) found.values s solution.headline.sound c
+    -- what a line of a value denotes is its twin
+    twin : (s : A) → Contains values s → (line : Text) → IsLine s line → (a : A) → promise.Denotes line a → IsTwin s a
+    twin s c = has.twins s (All-contains promise.IsOne values s headline.sound c)
 
-    -- what it denotes is the twin of that value
-    twin : (s : Substitution) → Contains found.values s → (line : Text) → IsLineOf m p s line → (a : Substitution) → DenotesOnVariables m p line a → IsTwin s a
-    twin s c line of a d = subst (IsTwin s) (sym d.1.1) (twins s (unifies s c) line of d.0 d.1.0)
+    denoted : (line : Text) → Contains shown line → (a : A) × promise.Denotes line a
+    denoted line c = let b = beside IsLine values given lines line (from_shown line c) in has.denotes b.0 line b.1.1
 
-    line_denotes : (s : Substitution) (line : Text) → IsLineOf m p s line → (a : Substitution) × DenotesOnVariables m p line a
-    line_denotes s line of = (on_variables p.vars of.reads.denoted, (of.reads.denoted, (of.reads.denotes, refl)))
+    sound : (line : Text) → Contains shown line → (a : A) → promise.Denotes line a → promise.IsOne a
+    sound line c a d = let b = beside IsLine values given lines line (from_shown line c) in (twin b.0 b.1.0 line b.1.1 a d).one
 
-    denoted : (line : Text) → Contains shown.answer.lines line → (a : Substitution) × DenotesOnVariables m p line a
-    denoted line c = let b = beside (IsLineOf m p) found.values shown.lines shown.lines_of line (given line c) in line_denotes b.0 line b.1.1
-
-    sound : (line : Text) → Contains shown.answer.lines line → (a : Substitution) → DenotesOnVariables m p line a → Unifies m p a
-    sound line c a d =
-        let b = beside (IsLineOf m p) found.values shown.lines shown.lines_of line (given line c) in
-        (twin b.0 b.1.0 line b.1.1 a d).unifies
-
-    apart : (line other : Text) → Contains shown.answer.lines line → Contains shown.answer.lines other → line ≢ other → (a c : Substitution) → DenotesOnVariables m p line a → DenotesOnVariables m p other c → IsInstanceOf m p a c → ⊥
+    apart : (line other : Text) → Contains shown line → Contains shown other → line ≢ other → (a c : A) → promise.Denotes line a → promise.Denotes other c → promise.IsBelow a c → ⊥
     apart line other i j n a c d e below =
-        let two = beside_two (IsLineOf m p) (IsInstanceOf m p) found.values shown.lines shown.lines_of solution.headline.apart line other (given line i) (given other j) n in
+        let two = beside_two IsLine promise.IsBelow values given lines headline.apart line other (from_shown line i) (from_shown other j) n in
         let first = twin two.first two.first_in line two.first_beside a d in
         let second = twin two.second two.second_in other two.second_beside c e in
-        let up = IsInstance-trans m.signature p.vars two.first a c first.above below in
-        two.not_below (IsInstance-trans m.signature p.vars two.first c two.second up second.below)
+        let up = has.transitive two.first a c first.above below in
+        two.not_below (has.transitive two.first c two.second up second.below)
 
-    complete : IsWhole found → (s : Substitution) → Unifies m p s → (line : Text) × (a : Substitution) × (Contains shown.answer.lines line × DenotesOnVariables m p line a × IsInstanceOf m p s a)
-    complete whole s is =
-        let any : Any (IsInstanceOf m p s) found.values = (solution.headline.all whole tt).complete s is in
-        let inside : Contains found.values any.1 = (any.0, any.2, any.3) in
-        let f = facing (IsLineOf m p) found.values shown.lines shown.lines_of any.1 inside in
-        let d = line_denotes any.1 f.0 f.1.1 in
+    -- what a value stands for, what its line denotes stands for
+    pub shown_by_line : (Stands : A → Type 0) → ((a b : A) → Stands a → promise.IsBelow a b → Stands b) → Any Stands values → (line : Text) × (a : A) × (Contains shown line × promise.Denotes line a × Stands a)
+    shown_by_line Stands carries any =
+        let inside : Contains values any.1 = (any.0, any.2, any.3) in
+        let f = facing IsLine values given lines any.1 inside in
+        let d = has.denotes any.1 f.0 f.1.1 in
         let k = twin any.1 inside f.0 f.1.1 d.0 d.1 in
-        (f.0, d.0, ((shown.answer.in_order.exact f.0).1 f.1.0, d.1, IsInstance-trans m.signature p.vars s any.1 d.0 any.4 k.above))
+        (f.0, d.0, ((order.exact f.0).1 f.1.0, d.1, carries any.1 d.0 any.4 k.above))
 
-    pub kept : IsHeadlineOfLines (unifiers_of m p) (IsWhole found) shown.answer.lines
-    kept = record { denoted = denoted; sound = sound; apart = apart; complete = λ whole trusted. complete whole }
+    pub headline_of_lines : ((s a b : A) → promise.IsReached s a → promise.IsBelow a b → promise.IsReached s b) → IsHeadlineOfLines promise IsWhole shown
+    headline_of_lines reached = record {
+      denoted = denoted;
+      sound = sound;
+      apart = apart;
+      complete = λ whole trusted s is. shown_by_line (promise.IsReached s) (reached s) ((headline.all whole trusted).complete s is);
+    }
 
-as_twin : (m : Contents) (p : Problem) (s a : Substitution) → Unifies m p a × IsInstanceOf m p a s × IsInstanceOf m p s a → IsTwin m p s a
-as_twin m p s a t = record { unifies = t.0; below = t.1; above = t.2 }
+module _ (m : Contents) (p : Problem) where
+  -- the line of a unifier denotes something
+  pub line_denotes : (s : Substitution) (line : Text) → IsLineOf m p s line → (a : Substitution) × DenotesOnVariables m p line a
+  line_denotes s line of = (on_variables p.vars of.reads.denoted, (of.reads.denoted, (of.reads.denotes, refl)))
+
+  unifier_lines : FitsKinds m.signature → HasVariables m.signature p → LinesDenoteUnifiers → HasTwins (unifiers_of m p) (IsLineOf m p)
+  unifier_lines fits vars denote = record {
+    transitive = IsInstance-trans m.signature p.vars;
+    denotes = line_denotes;
+    twins = twins;
+  } where
+    twins : (s : Substitution) → Unifies m p s → (line : Text) → IsLineOf m p s line → (a : Substitution) → DenotesOnVariables m p line a → IsTwin (unifiers_of m p) s a
+    twins s is line of a d =
+        let t = denote m p fits vars s is line of d.0 d.1.0 in
+        subst (IsTwin (unifiers_of m p) s) (sym d.1.1) (record { one = t.0; below = t.1; above = t.2 })
 
 pub shown_lines_keep : LoadedModulesAreGood → ProblemsAreKinded → LinesDenoteUnifiers → ShownLinesKeepThePromise
 shown_lines_keep good kinded denote bytes word m p asked found solution text shown =
     let g = good bytes m asked.module_text in
     let k = kinded m.signature m.names (module-names m g.0) word p asked.problem_text in
-    kept m p (λ s is line of r d. as_twin m p s (on_variables p.vars r) (denote m p g.1.fits k.1 s is line of r d)) found solution text shown
+    headline_of_lines (unifiers_of m p) (IsLineOf m p) (unifier_lines m p g.1.fits k.1 denote) (IsWhole found) found.values solution.headline shown.lines shown.answer.lines shown.lines_of shown.answer.in_order
+    (λ s a b. IsInstance-trans m.signature p.vars s a b)

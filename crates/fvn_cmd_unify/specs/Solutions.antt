@@ -53,3 +53,9 @@ module _ (m : Contents) (p : Problem) where
     pub answer : IsAnswerText m.signature m.names lines found.end text
     -- no two of them have one line
     pub count : length answer.lines ≡ length found.values
+
+  -- the search for unifiers ended so
+  pub record IsEndOfSearch (end : End) : Type 0 where
+    pub found : Found
+    pub solution : IsSolution found
+    pub end_is : end ≡ found.end

@@ -6,9 +6,11 @@ mod laws;
 mod lines;
 mod pairs;
 mod replying;
+mod searching;
 
 pub use ends::status_of_end;
 pub use laws::{lines_denote_unifiers, shown_lines_keep_the_promise};
 pub use lines::lines_of;
 pub use pairs::flattened;
 pub use replying::unify_reply;
+pub use searching::end_of_search;

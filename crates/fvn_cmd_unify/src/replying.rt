@@ -21,7 +21,11 @@ use fvn_terms::NoMemory;
 use std::alloc::Global;
 
 // What the solver finds.
-fn solved(alloc: Global, declared: &Module, problem: &Problem) -> Result<Solved, NoMemory>
+pub(crate) fn solved(
+    alloc: Global,
+    declared: &Module,
+    problem: &Problem,
+) -> Result<Solved, NoMemory>
     requires kinded { All (AreOfOneKind declared.now.signature) problem.now.pairs }
     requires vars { HasVariables declared.now.signature problem.now }
     ensures { IfOk result (IsSolved declared.now problem.now) }

@@ -1,5 +1,5 @@
 -- What was explored keeps what is promised of variants.
-use Rattle.std.proofs.Common.{◌≡◌, List, [], ◌∷◌, map, get_or, sym, subst, inl, inr, arith}
+use Rattle.std.proofs.Common.{◌≡◌, ℕ, List, [], ◌∷◌, map, get_or, sym, subst, inl, inr, arith}
 use Rattle.std.specs.Prelude.{All, Any}
 use Rattle.std.specs.List.{AllPairs}
 use Rattle.std.proofs.lemmas.List.Elements.{All-nil, All-map, All-tail, All-weaker, All-contains, Contains-get_or}
@@ -14,7 +14,7 @@ use Rattle.fvn_terms.specs.Substitution.{Substitution, apply, Occurs}
 use Rattle.fvn_terms.specs.Equality.{BEqual}
 use Rattle.fvn_terms.specs.Theory.{Equations}
 use Rattle.fvn_terms.specs.Rewriting.{IsConfluent}
-use Rattle.fvn_terms.specs.Variants.{OccursInSome, IsVariant, Covers}
+use Rattle.fvn_terms.specs.Variants.{OccursInSome, IsVariant}
 use Rattle.fvn_terms.specs.CompleteSets.{IsApart, IsShortest}
 use Rattle.fvn_terms.specs.Laws.{RewritingLaws}
 use Rattle.fvn_terms.proofs.Equal.{BEqual-apply, BEqual-sym}
@@ -32,21 +32,21 @@ use Rattle.fvn_theory.specs.Equations.{equations_of}
 use Rattle.fvn_cover.specs.declared.variant.Variant.{Variant}
 use Rattle.fvn_cover.specs.Covering.{CoversVariant}
 use Rattle.fvn_exploring.specs.declared.ends.Explored.{Explored}
-use Rattle.fvn_exploring.specs.declared.ends.ExploreEnd.TheVariants.{Complete}
+use Rattle.fvn_exploring.specs.declared.ends.ExploreEnd.TheVariants.{Complete, Levels}
 use Rattle.fvn_exploring.specs.LevelRuns.{AreVariablesOf}
-use Rattle.fvn_exploring.specs.Explorations.{IsFound}
-use Rattle.fvn_closure.specs.Closing.{IsExplorable, Reached, reached_of, IsReachedVariant}
+use Rattle.fvn_exploring.specs.Explorations.{IsStartWithin, IsCovered, IsFound}
+use Rattle.fvn_closure.specs.Closing.{IsExplorable, Reached, reached_of, IsReachedVariant, IsVariantWithin}
 use Rattle.fvn_closure.specs.Laws.{ExplorationLaws}
 use Rattle.fvn_closure.proofs.Carrying.{covers_on, same_variables}
 use Rattle.fvn_cmd.specs.Headline.{IsHeadline}
 use Rattle.fvn_cmd_exploring.specs.declared.reach.Reach.{Reach}
-use Rattle.fvn_cmd_exploring.specs.Searches.{AreTrusted, setting_of, limits_of, IsSearched}
-use Rattle.fvn_cmd_variants.specs.Asked.{flattened, IsVariantOfTerm, IsCoveredBy, variants_of}
+use Rattle.fvn_cmd_exploring.specs.Searches.{AreTrusted, setting_of, limits_of, AreExplored, IsSearched}
+use Rattle.fvn_cmd_variants.specs.Asked.{flattened, IsVariantOfTerm, IsCoveredBy, IsWithinSteps, HasFewLevels, variants_of}
 use Rattle.fvn_cmd_variants.specs.Solutions.{Found, values, IsWhole}
 
 -- Lists of one term.
 
-occurs_of : (x : Var) (a : Term) → OccursInSome x (a ∷ []) → Occurs x a
+pub occurs_of : (x : Var) (a : Term) → OccursInSome x (a ∷ []) → Occurs x a
 occurs_of x a o = elim (contains_cases a [] o.1 (o.0, o.2, o.3)) [
   | inl e ↦ subst (Occurs x) (sym e) o.4
   | inr i ↦ absurd (contains_none o.1 i)
@@ -92,11 +92,24 @@ module _ (m : Contents) (t : Query) (vars : HasVariables m.signature t) (rewriti
     once = vars.distinct;
   }
 
-  to_flat : (p : Reached) → IsVariantOfTerm m t p → IsReachedVariant (setting_of m reach) start p
+  pub to_flat : (p : Reached) → IsVariantOfTerm m t p → IsReachedVariant (setting_of m reach) start p
   to_flat p h = variant_along m.signature (equations_of m.equations) rewriting (term t.term) (plain (flattened m t)) equal p.0 p.1 h
 
   from_flat : (p : Reached) → IsReachedVariant (setting_of m reach) start p → IsVariantOfTerm m t p
   from_flat p h = variant_along m.signature (equations_of m.equations) rewriting (plain (flattened m t)) (term t.term) (BEqual-sym m.signature equal) p.0 p.1 h
+
+  pub start_within : (k : ℕ) (p : Reached) → IsVariantOfTerm m t p → IsWithinSteps m t k p → IsStartWithin (setting_of m reach) start k p.1
+  start_within k p is within j us q =
+      let s = p.1 in
+      within j us
+      (list_before m.signature (equations_of m.equations) rewriting j (apply s (plain (flattened m t)) ∷ []) (apply s (term t.term) ∷ []) us (BEqual-apply m.signature s is.well_sorted.0 equal, tt) q)
+
+  -- what is covered by a variant that was found is covered by what this stands for
+  pub some_value : (x : Explored) → AreExplored m reach start x → (p : Reached) → IsCovered (setting_of m reach) x.variants p.0 p.1 → Any (IsCoveredBy m t p) (map reached_of x.variants)
+  some_value x explored p (j, w, l, at, c) =
+      let given = All-contains (IsFound (setting_of m reach) start) x.variants w explored.found (j, l, at) in
+      let i = contains_map reached_of x.variants w (j, l, at) in
+      (i.0, reached_of w, i.1, i.2, covers_on m.signature w.vars t.vars (map plain w.terms) (substitution w.subst) p.0 p.1 (same_variables start t.vars w.vars variables given.vars) c)
 
   module _ (good : IsGood m.signature) (completed : IsCompleted m.signature) (fits : Fits m.signature (flattened m t)) (x : Explored) (s : IsSearched m reach start x) where
     explorable : IsExplorable (setting_of m reach) start
@@ -135,12 +148,16 @@ module _ (m : Contents) (t : Query) (vars : HasVariables m.signature t) (rewriti
         s.explored.found s.explored.pruned.apart
 
     complete : x.end ≡ Complete → AreTrusted m → (p : Reached) → IsVariantOfTerm m t p → Any (IsCoveredBy m t p) list
-    complete e trusted p v = go (s.explored.complete e trusted.0 trusted.1 p.0 p.1 (to_flat p v)) where
-      go : Any (λ w. Covers m.signature w.vars (map plain w.terms) (substitution w.subst) p.0 p.1) x.variants → Any (IsCoveredBy m t p) list
-      go (j, w, l, at, c) =
-          let given = All-contains (IsFound (setting_of m reach) start) x.variants w s.explored.found (j, l, at) in
-          let i = contains_map reached_of x.variants w (j, l, at) in
-          (i.0, reached_of w, i.1, i.2, covers_on m.signature w.vars t.vars (map plain w.terms) (substitution w.subst) p.0 p.1 (same_variables start t.vars w.vars variables given.vars) c)
+    complete e trusted p v = some_value x s.explored p (s.explored.complete e trusted.0 trusted.1 p.0 p.1 (to_flat p v))
+
+    -- finitely many variants that no more steps than levels lead to
+    pub finite : IsConfluent m.signature (equations_of m.equations) → HasFewLevels m t reach.levels → (v : Variant) → x.end ≡ Levels v → ⊥
+    finite confluent few v e = (laws confluent).finite few.variants near (λ p h. few.all.complete p (from_flat p h)) v e where
+      near : All (IsVariantWithin (setting_of m reach) start reach.levels) few.variants
+      near i b l =
+          let p = get_or few.variants i b in
+          let is = few.all.sound i b l in
+          (to_flat p is, start_within reach.levels p is (few.within i b l))
 
     shortest : x.end ≡ Complete → AreTrusted m → IsShortest (IsVariantOfTerm m t) (IsCoveredBy m t) list
     shortest e trusted others whole =

@@ -2,3 +2,5 @@
 mod Headline
 mod Listed
 mod Replied
+mod Denoted
+mod Shown

@@ -36,7 +36,7 @@ use Rattle.fvn_cmd_exploring.specs.Ends.{end_told}
 use Rattle.fvn_cmd_variants.specs.Solutions.{Found}
 use Rattle.fvn_cmd_variants.specs.Replies.{variants_words, IsAnswer, IsVariantsAnswer}
 use Rattle.fvn_cmd_variants.specs.inner.Steps.{IsStartOf, IsTermIn, AreLinesOfVariants, RepliesIn}
-use Rattle.fvn_cmd_variants.proofs.Headline.{headline}
+use Rattle.fvn_cmd_variants.proofs.Headline.{headline, finite}
 use Rattle.fvn_cmd_variants.proofs.Listed.{shown-lines}
 
 -- the list that is explored has the flat form of the term alone
@@ -60,7 +60,12 @@ module _ (m : Contents) (t : Query) (reach : Reach) (start : List FlatTerm) (fro
       let end_is : end ≡ end_told reach x.end loss (length x.variants) = told ∙ ap (λ l. end_told reach x.end loss (length l)) are in
       record {
         found = f;
-        solution = record { explored = flat.explored; headline = promised; loss_is = loss_is };
+        solution = record {
+          explored = flat.explored;
+          headline = promised;
+          finite = finite m t vars (rewriting m.signature (equations_of m.equations)) from.equal reach good completed from.fits x flat;
+          loss_is = loss_is;
+        };
         shown =
             shown-lines m t law reach f lines (subst (λ l. AreLinesOfVariants m t l lines) are h) promised.apart text
             (subst (λ e. IsAnswerText m.signature m.names lines e text) end_is shown);

@@ -2,4 +2,5 @@
 pub mod Asked
 pub mod Solutions
 pub mod Replies
+pub mod Laws
 pub mod inner

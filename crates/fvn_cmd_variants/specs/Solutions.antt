@@ -1,6 +1,7 @@
 -- Variants with the end of the search for them, and the text that shows them.
 use Rattle.std.specs.Prelude.{◌≡◌, ℕ, List, [], ◌∷◌, map, length, Option}
 use Rattle.std.specs.List.{AllZip}
+use Rattle.fvn_terms.specs.Rewriting.{IsConfluent}
 use Rattle.fvn_forms.specs.Flat.{FlatTerm, plain}
 use Rattle.fvn_flat.specs.Bindings.{Bindings}
 use Rattle.fvn_flat.specs.Drawn.{IsDrawn}
@@ -9,9 +10,11 @@ use Rattle.fvn_syntax.specs.Pieces.{Text}
 use Rattle.fvn_problems.specs.declared.query.Query.{Query}
 use Rattle.fvn_module.specs.Contents.{Contents}
 use Rattle.fvn_module_loading.specs.Losses.{IsLossOf}
+use Rattle.fvn_theory.specs.Equations.{equations_of}
+use Rattle.fvn_cover.specs.declared.variant.Variant.{Variant}
 use Rattle.fvn_exploring.specs.declared.ends.Explored.{Explored}
 use Rattle.fvn_exploring.specs.declared.ends.ExploreEnd.{ExploreEnd}
-use Rattle.fvn_exploring.specs.declared.ends.ExploreEnd.TheVariants.{Complete}
+use Rattle.fvn_exploring.specs.declared.ends.ExploreEnd.TheVariants.{Complete, Levels}
 use Rattle.fvn_exploring.specs.Explorations.{IsExploreCause}
 use Rattle.fvn_closure.specs.Closing.{Reached, reached_of}
 use Rattle.fvn_answer.specs.Lines.{HasNoLineFeed, IsTextOf, variant, values_of}
@@ -21,7 +24,7 @@ use Rattle.fvn_answer.specs.declared.end.End.{End}
 use Rattle.fvn_cmd.specs.Headline.{IsHeadline}
 use Rattle.fvn_cmd_exploring.specs.declared.reach.Reach.{Reach}
 use Rattle.fvn_cmd_exploring.specs.Searches.{setting_of, limits_of, AreExplored}
-use Rattle.fvn_cmd_variants.specs.Asked.{flattened, variants_of}
+use Rattle.fvn_cmd_variants.specs.Asked.{flattened, HasFewLevels, variants_of}
 use Rattle.fvn_cmd_exploring.specs.Ends.{end_told}
 
 -- what was found: an exploration, and where that is complete the first equation that loses a sort, if one does
@@ -44,10 +47,13 @@ end_of reach found = end_told reach found.explored.end found.loss (length found.
 module _ (m : Contents) (t : Query) where
   module _ (reach : Reach) where
     -- The term in flat form was explored so far: its variants were found, none covering another; where the exploration
-    -- came to its end, and the equations terminate and are confluent, they are all; and the loss of a sort is right.
+    -- came to its end, and the equations terminate and are confluent, they are all; it does not end at its last level where
+    -- they are confluent and finitely many variants within as many steps cover all; and the loss of a sort is right.
     pub record IsSolution (found : Found) : Type 0 where
       pub explored : AreExplored m reach (flattened m t ∷ []) found.explored
       pub headline : IsHeadline (variants_of m t) (IsWhole found) (values found)
+      pub finite : IsConfluent m.signature (equations_of m.equations) → HasFewLevels m t reach.levels →
+          (v : Variant) → found.explored.end ≡ Levels v → ⊥
       pub loss_is : IsWhole found → IsLossOf m found.loss
 
     -- no end but the complete one has a cause

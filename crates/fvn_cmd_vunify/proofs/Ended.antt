@@ -1,9 +1,10 @@
--- The ends of searches for unifiers can be told.
-use Rattle.std.proofs.Common.{◌≡◌, ◌≢◌, ℕ, Option, Some, None, refl, sym, subst}
+-- The ends of searches for unifiers can be told, and which of them is told.
+use Rattle.std.proofs.Common.{◌≡◌, ◌≢◌, ℕ, Option, Some, None, refl, sym, ◌∙◌, subst}
 use Rattle.std.specs.Prelude.{Any}
 use Rattle.fvn_flat.specs.Drawn.{IsDrawn}
 use Rattle.fvn_flat.specs.Solving.{FlatPairs}
 use Rattle.fvn_module.specs.Contents.{Contents}
+use Rattle.fvn_cover.specs.declared.variant.Variant.{Variant}
 use Rattle.fvn_exploring.specs.declared.ends.Explored.{Explored}
 use Rattle.fvn_exploring.specs.declared.ends.ExpandEnd.{ExpandEnd}
 use Rattle.fvn_exploring.specs.declared.ends.ExpandEnd.TheVariants as expanded
@@ -67,3 +68,35 @@ module _ (m : Contents) (reach : Reach) (pairs : FlatPairs) (x : Explored) (expl
 
   pub solved_fits : Tells r.end
   solved_fits = by_first x.end refl
+
+-- the limits of levels and of variants are no ends of an expansion
+pub no_levels : (v : Variant) (stop : ExpandEnd) → explore_end stop ≡ Levels v → ⊥
+no_levels v expanded.Whole h = cc
+no_levels v (expanded.Steps from to) h = cc
+no_levels v (expanded.Size cause) h = cc
+no_levels v (expanded.Basis f system) h = cc
+no_levels v (expanded.Unifiers given list) h = cc
+
+pub no_variants : (v : Variant) (stop : ExpandEnd) → explore_end stop ≡ Variants v → ⊥
+no_variants v expanded.Whole h = cc
+no_variants v (expanded.Steps from to) h = cc
+no_variants v (expanded.Size cause) h = cc
+no_variants v (expanded.Basis f system) h = cc
+no_variants v (expanded.Unifiers given list) h = cc
+
+module _ (m : Contents) (reach : Reach) (pairs : FlatPairs) (x : Explored) (r : SolvedModulo) (s : IsSolvedModulo (setting_of m reach) (IsDrawn m.signature) pairs (limits_of m reach 1) x r) where
+  -- an end that is none of an expansion is that of the exploration
+  pub told_first : (end : ExploreEnd) → ((stop : ExpandEnd) → explore_end stop ≡ end → ⊥) → r.end ≡ end → x.end ≡ end
+  told_first end no_stop e = go x.end refl
+    where
+      first : x.end ≢ Complete → x.end ≡ end
+      first n = sym (s.first n) ∙ e
+
+      go : (own : ExploreEnd) → x.end ≡ own → x.end ≡ end
+      go Complete is = let w = s.cause is (λ q. no_stop expanded.Whole (sym q ∙ e)) in absurd (no_stop w.stop (sym w.is ∙ e))
+      go (Levels v) is = first (λ q. cc)
+      go (Variants v) is = first (λ q. cc)
+      go (Steps from to) is = first (λ q. cc)
+      go (Size cause) is = first (λ q. cc)
+      go (Basis f system) is = first (λ q. cc)
+      go (Unifiers given list) is = first (λ q. cc)

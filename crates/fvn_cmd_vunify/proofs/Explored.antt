@@ -11,6 +11,7 @@ use Rattle.fvn_exploring.specs.declared.limits.Limits.{Limits}
 use Rattle.fvn_exploring.specs.declared.ends.Explored.{Explored}
 use Rattle.fvn_exploring.specs.Setting.{Setting}
 use Rattle.fvn_exploring.specs.Explorations.{IsExploration}
+use Rattle.fvn_closure.specs.Laws.{ExplorationsAreLawful}
 use Rattle.fvn_vunify.specs.declared.solved.SolvedModulo.{SolvedModulo}
 use Rattle.fvn_vunify.specs.Sides.{sides_in_turn}
 use Rattle.fvn_vunify.specs.Solved.{IsOfSomePairs, IsSolvedFor}
@@ -31,13 +32,14 @@ module _ (m : Contents) (reach : Reach) (pairs : FlatPairs) (sides : AreSides m.
     };
   }
 
-  pub solved_in : (workers : ℕ) (start : List FlatTerm) → start ≡ sides_in_turn pairs → (limits : Limits) → limits ≡ limits_of m reach workers → IsExploration g drawn start limits x → (r : SolvedModulo) → IsSolvedFor g drawn x r → IsSolvedBy m reach drawn pairs r
-  solved_in workers start is limits limits_are e r solved =
+  pub solved_in : (workers : ℕ) (start : List FlatTerm) → start ≡ sides_in_turn pairs → (limits : Limits) → limits ≡ limits_of m reach workers → IsExploration g drawn start limits x → ExplorationsAreLawful g drawn → (r : SolvedModulo) → IsSolvedFor g drawn x r → IsSolvedBy m reach drawn pairs r
+  solved_in workers start is limits limits_are e laws r solved =
       let own = subst (λ l. IsExploration (setting_of m reach) drawn l (limits_of m reach 1) x) is (explored_in m reach drawn start x workers g setting limits limits_are e) in
       let there : IsSolvedFor (setting_of m reach) drawn x r = subst (λ y. IsSolvedFor y drawn x r) setting solved in
       record {
         explored = x;
         exploration = own;
+        laws = subst (λ y. ExplorationsAreLawful y drawn) setting laws;
         solved = there pairs (limits_of m reach 1) (record { kinds = sides.kinds; exploration = own });
       }
 

@@ -1,14 +1,21 @@
 -- What was solved keeps what is promised of unifiers in a theory.
-use Rattle.std.proofs.Common.{◌≡◌, List, map, None, sym, subst}
+use Rattle.std.proofs.Common.{◌≡◌, List, map, get_or, None, sym, subst}
 use Rattle.std.specs.Prelude.{All, Any}
+use Rattle.std.specs.List.{AllZip}
 use Rattle.std.proofs.lemmas.List.Elements.{All-nil, All-map, All-weaker}
+use Rattle.fvn_terms.specs.Term.{Term}
 use Rattle.fvn_terms.specs.Substitution.{Substitution}
+use Rattle.fvn_terms.specs.Equality.{BEqual}
+use Rattle.fvn_terms.specs.Rewriting.{IsConfluent}
+use Rattle.fvn_terms.specs.Laws.{RewritingLaws}
 use Rattle.fvn_terms.specs.Unifiers.{Problem as TermPairs, IsInstance}
 use Rattle.fvn_terms.specs.Theory.{IsTheoryInstance}
 use Rattle.fvn_terms.specs.CompleteSets.{IsApart, IsShortest}
+use Rattle.fvn_forms.specs.Flat.{FlatTerm, plain}
 use Rattle.fvn_forms.specs.Good.{IsGood}
 use Rattle.fvn_signature.specs.Queries.{IsCompleted}
 use Rattle.fvn_flat.specs.Drawn.{IsDrawn}
+use Rattle.fvn_flat.specs.Fits.{AllFit}
 use Rattle.fvn_flat.specs.Problems.{IsProblem as AreOfKinds, plain_pairs, variables_of}
 use Rattle.fvn_flat.specs.Solving.{substitution}
 use Rattle.fvn_rewrite_laws.specs.Admissible.{AreAdmissible}
@@ -18,11 +25,16 @@ use Rattle.fvn_problems.specs.Problems.{AreOfOneKind, HasVariables}
 use Rattle.fvn_module.specs.Contents.{Contents}
 use Rattle.fvn_module_loading.specs.Losses.{IsLossOf}
 use Rattle.fvn_theory.specs.Equations.{equations_of}
+use Rattle.fvn_cover.specs.declared.variant.Variant.{Variant}
 use Rattle.fvn_exploring.specs.declared.ends.Explored.{Explored}
-use Rattle.fvn_exploring.specs.declared.ends.ExploreEnd.TheVariants.{Complete}
+use Rattle.fvn_exploring.specs.declared.ends.ExploreEnd.TheVariants.{Complete, Levels}
 use Rattle.fvn_exploring.specs.Setting.{Setting}
+use Rattle.fvn_exploring.specs.LevelRuns.{AreVariablesOf}
+use Rattle.fvn_closure.specs.Closing.{IsExplorable, Reached, IsReachedVariant, IsVariantWithin}
+use Rattle.fvn_closure.specs.Laws.{ExplorationsAreLawful}
 use Rattle.fvn_vunify.specs.declared.solved.SolvedModulo.{SolvedModulo}
 use Rattle.fvn_vunify.specs.Solutions.{IsKeptUnifier, IsIrreducibleUnifier as IsIrreducibleFor, IsInstanceOfSome, AreAllIrreducibleUnifiers}
+use Rattle.fvn_vunify.specs.Sides.{sides_in_turn}
 use Rattle.fvn_vunify.specs.Solved.{IsSolvedModulo}
 use Rattle.fvn_vunify.specs.Laws.{TheoryUnifiersHaveIrreducibleValues, CompleteIrreducibleUnifiersAreShortest, FlattenedPairsHaveOneTheoryAnswer, HaveOneTheoryAnswer}
 use Rattle.fvn_cmd.specs.Headline.{IsHeadline}
@@ -30,9 +42,10 @@ use Rattle.fvn_cmd_unify.specs.Asked.{pairs_of, IsInstanceOf}
 use Rattle.fvn_cmd_unify.proofs.Asking.{listed, asked, instance-on_pairs}
 use Rattle.fvn_cmd_unify.proofs.Flattening.{pairs_of-problem}
 use Rattle.fvn_cmd_exploring.specs.declared.reach.Reach.{Reach}
-use Rattle.fvn_cmd_exploring.specs.Searches.{AreTrusted, setting_of, limits_of}
-use Rattle.fvn_cmd_vunify.specs.Asked.{flattened_pairs, UnifiesInTheory, IsIrreducibleUnifier, IsTheoryInstanceOf, theory_unifiers_of}
+use Rattle.fvn_cmd_exploring.specs.Searches.{AreTrusted, setting_of, limits_of, AreExplored}
+use Rattle.fvn_cmd_vunify.specs.Asked.{sides_of, flattened_pairs, UnifiesInTheory, IsIrreducibleUnifier, IsTheoryInstanceOf, IsVariantOfSides, HasFewLevels, theory_unifiers_of}
 use Rattle.fvn_cmd_vunify.specs.Solutions.{Found, values, IsWhole}
+use Rattle.fvn_cmd_vunify.proofs.InTurn.{sides_flat, each_back, each_occurs, sides_occur, occur_sides, variant_along, within_along}
 
 -- the laws of unifiers in a theory
 pub record IsLawful : Type 0 where
@@ -50,19 +63,19 @@ module _ (m : Contents) (p : Problem) (reach : Reach) (kinded : All (AreOfOneKin
   abbrev flat : TermPairs
   flat = plain_pairs (flattened_pairs m p)
 
-  kinds : AreOfKinds m.signature problem
+  pub kinds : AreOfKinds m.signature problem
   kinds = pairs_of-problem m.signature p.pairs kinded
 
-  one : HaveOneTheoryAnswer g problem flat
+  pub one : HaveOneTheoryAnswer g problem flat
   one = lawful.flat g good.fits problem kinds
 
   to_command : (s : Substitution) → IsIrreducibleFor g problem s → IsIrreducibleUnifier m p s
   to_command s h = record { unifies = h.kept.unifier; values = λ x c. h.values x (listed m.signature p vars x c) }
 
-  from_command : (s : Substitution) → IsIrreducibleUnifier m p s → IsIrreducibleFor g problem s
+  pub from_command : (s : Substitution) → IsIrreducibleUnifier m p s → IsIrreducibleFor g problem s
   from_command s h = record { kept = record { unifier = h.unifies; stay = All-nil _ }; values = λ x c. h.values x (asked m.signature p vars x c) }
 
-  theory-instance : (a b : Substitution) → IsTheoryInstance m.signature (equations_of m.equations) (variables_of problem) a b → IsTheoryInstanceOf m p a b
+  pub theory-instance : (a b : Substitution) → IsTheoryInstance m.signature (equations_of m.equations) (variables_of problem) a b → IsTheoryInstanceOf m p a b
   theory-instance a b h = record { after = h.after; well_sorted = h.well_sorted; equal = λ x c. h.equal x (listed m.signature p vars x c) }
 
   -- instances on the variables of the flat pairs are instances on those of the problem
@@ -125,3 +138,46 @@ module _ (m : Contents) (p : Problem) (reach : Reach) (kinded : All (AreOfOneKin
             shortest = shortest e.0 trusted;
           };
         })
+
+  -- where finitely many variants of the sides within as many steps as levels cover all, the last level is not met
+  module _ (rewriting : RewritingLaws m.signature (equations_of m.equations)) (completed : IsCompleted m.signature) (fits : AllFit m.signature (sides_in_turn (flattened_pairs m p))) (x : Explored) (explored : AreExplored m reach (sides_in_turn (flattened_pairs m p)) x)
+      (laws : ExplorationsAreLawful g (IsDrawn m.signature)) where
+    abbrev start : List FlatTerm
+    start = sides_in_turn (flattened_pairs m p)
+
+    abbrev sides : List Term
+    sides = sides_of problem
+
+    equal : AllZip (BEqual m.signature) sides (map plain start)
+    equal = sides_flat m.signature good.fits p.pairs kinded
+
+    back : AllZip (BEqual m.signature) (map plain start) sides
+    back = each_back m.signature sides (map plain start) equal
+
+    variables : AreVariablesOf start p.vars
+    variables = record {
+      all = λ x. (
+        λ c. each_occurs m.signature x (map plain start) sides back (occur_sides p.pairs x ((vars.exact x).0 c)),
+        λ o. (vars.exact x).1 (sides_occur p.pairs x (each_occurs m.signature x sides (map plain start) equal o)),
+      );
+      once = vars.distinct;
+    }
+
+    explorable : IsExplorable g start
+    explorable = record { good = good; completed = completed; lawful = explored.lawful; fits = fits; fixed = All-nil _ }
+
+    to_flat : (q : Reached) → IsVariantOfSides m p q → IsReachedVariant g start q
+    to_flat q h = variant_along m.signature (equations_of m.equations) rewriting sides (map plain start) equal q.0 q.1 h
+
+    from_flat : (q : Reached) → IsReachedVariant g start q → IsVariantOfSides m p q
+    from_flat q h = variant_along m.signature (equations_of m.equations) rewriting (map plain start) sides back q.0 q.1 h
+
+    pub finite : IsConfluent m.signature (equations_of m.equations) → HasFewLevels m p reach.levels → (v : Variant) → x.end ≡ Levels v → ⊥
+    finite confluent few v e =
+        (laws start explorable confluent (limits_of m reach 1) x explored p.vars variables).finite few.variants near (λ q h. few.all.complete q (from_flat q h)) v e
+      where
+        near : All (IsVariantWithin g start reach.levels) few.variants
+        near i b l =
+            let q = get_or few.variants i b in
+            let is = few.all.sound i b l in
+            (to_flat q is, within_along m.signature (equations_of m.equations) rewriting sides (map plain start) equal reach.levels q.1 is.well_sorted (few.within i b l))

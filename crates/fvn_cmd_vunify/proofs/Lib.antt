@@ -1,5 +1,8 @@
--- The lemmas of the crate.
+-- The lemmas of the crate; the public ones are for callers.
+mod InTurn
 mod Headline
 mod Explored
-mod Ended
+pub mod Ended
 mod Replied
+mod Denoted
+mod Shown

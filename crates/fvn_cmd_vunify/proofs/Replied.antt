@@ -7,6 +7,7 @@ use Rattle.std.proofs.lemmas.List.Elements.{All-weaker}
 use Rattle.fvn_terms.specs.declared.plain.Plain.{Plain}
 use Rattle.fvn_terms.specs.declared.declarations.Declarations.{Declarations}
 use Rattle.fvn_terms.specs.CompleteSets.{IsApart}
+use Rattle.fvn_terms.specs.Laws.{RewritingIsLawful}
 use Rattle.fvn_theory.specs.Equations.{equations_of}
 use Rattle.fvn_forms.specs.Good.{IsGood}
 use Rattle.fvn_signature.specs.Queries.{IsCompleted}
@@ -52,7 +53,8 @@ use Rattle.fvn_cmd_vunify.specs.Asked.{flattened_pairs}
 use Rattle.fvn_cmd_vunify.specs.Solutions.{Found, values, end_of, Shows}
 use Rattle.fvn_cmd_vunify.specs.Replies.{IsAnswer, IsVunifyAnswer}
 use Rattle.fvn_cmd_vunify.specs.inner.Steps.{AreSides, IsSolvedIn, IsProblemIn, RepliesIn}
-use Rattle.fvn_cmd_vunify.proofs.Headline.{IsLawful, headline}
+use Rattle.fvn_cmd_vunify.proofs.InTurn.{turn_fits}
+use Rattle.fvn_cmd_vunify.proofs.Headline.{IsLawful, headline, finite}
 
 -- The pairs that are given.
 
@@ -116,17 +118,26 @@ module _ (m : Contents) (p : Problem) where
         All-weaker (λ (b : Bindings). IsIrreducibleUnifier (setting_of m reach) (plain_pairs pairs) (substitution b)) (HaveSorts m.signature p.vars) (λ b h x c. h.kept.unifier.0.1 x)
         r.unifiers s.solved.sound
 
-    pub answer-told : IsLawful → EqualLinesAreInstances → IsGood m.signature → IsCompleted m.signature → AreAdmissible m.signature (equations_of m.equations) → (loss : Option ℕ) → (r.end ≡ Complete → IsLossOf m loss) →
+    pub answer-told : RewritingIsLawful → FlattenedPairsAreGiven → IsLawful → EqualLinesAreInstances → IsGood m.signature → IsCompleted m.signature → AreAdmissible m.signature (equations_of m.equations) → (loss : Option ℕ) → (r.end ≡ Complete → IsLossOf m loss) →
         (unifiers : List Bindings) → unifiers ≡ r.unifiers → (lines : List Text) → AreLinesFor m p unifiers lines → (end : End) → end ≡ end_told reach r.end loss (length unifiers) → (text : Text) → IsAnswerText m.signature m.names lines end text →
         (status : Status) → status ≡ status_of_end end → IsAnswer m p reach status text
-    answer-told lawful law good completed admissible loss loss_is unifiers are lines h end told text shown status is_status =
+    answer-told rewriting given_law lawful law good completed admissible loss loss_is unifiers are lines h end told text shown status is_status =
         let f : Found = record { explored = s.explored; solved = r; loss = loss } in
         let here = solved_flat in
+        let given : Pairs = record { pairs = flattened_pairs m p } in
         let promised = headline m p reach is.kinded is.vars lawful good completed admissible here.explored r here.solved (record { explored = here.explored; solved = r; loss = loss }) refl loss_is in
         let end_is : end ≡ end_told reach r.end loss (length r.unifiers) = told ∙ ap (λ l. end_told reach r.end loss (length l)) are in
         record {
           found = record { explored = here.explored; solved = r; loss = loss };
-          solution = record { explored = here.exploration; solved = here.solved; headline = promised; loss_is = loss_is };
+          solution = record {
+            explored = here.exploration;
+            solved = here.solved;
+            headline = promised;
+            finite =
+                finite m p reach is.kinded is.vars lawful good (rewriting m.signature (equations_of m.equations)) completed
+                (turn_fits m.signature (flattened_pairs m p) (sides m p is given_law good given refl).fit) here.explored here.exploration here.laws;
+            loss_is = loss_is;
+          };
           shown =
               shown-lines law reach (record { explored = here.explored; solved = r; loss = loss }) lines (subst (λ l. AreLinesFor m p l lines) are h) promised.apart text
               (subst (λ e. IsAnswerText m.signature m.names lines e text) end_is shown);

@@ -2,15 +2,18 @@
 use Rattle.std.specs.Prelude.{◌≡◌, ℕ, List, map, length, Option, None, All}
 use Rattle.std.specs.List.{AllZip}
 use Rattle.fvn_terms.specs.Substitution.{Substitution}
+use Rattle.fvn_terms.specs.Rewriting.{IsConfluent}
 use Rattle.fvn_flat.specs.Drawn.{IsDrawn}
 use Rattle.fvn_flat.specs.Solving.{substitution}
 use Rattle.fvn_syntax.specs.Pieces.{Text}
 use Rattle.fvn_problems.specs.declared.problem.Problem.{Problem}
 use Rattle.fvn_module.specs.Contents.{Contents}
 use Rattle.fvn_module_loading.specs.Losses.{IsLossOf}
+use Rattle.fvn_theory.specs.Equations.{equations_of}
+use Rattle.fvn_cover.specs.declared.variant.Variant.{Variant}
 use Rattle.fvn_exploring.specs.declared.ends.Explored.{Explored}
 use Rattle.fvn_exploring.specs.declared.ends.ExploreEnd.{ExploreEnd}
-use Rattle.fvn_exploring.specs.declared.ends.ExploreEnd.TheVariants.{Complete}
+use Rattle.fvn_exploring.specs.declared.ends.ExploreEnd.TheVariants.{Complete, Levels}
 use Rattle.fvn_exploring.specs.Explorations.{IsExploreCause}
 use Rattle.fvn_vunify.specs.declared.solved.SolvedModulo.{SolvedModulo}
 use Rattle.fvn_vunify.specs.Causes.{MeetsBound}
@@ -23,7 +26,7 @@ use Rattle.fvn_cmd_unify.specs.Solutions.{IsLineOf}
 use Rattle.fvn_cmd_exploring.specs.declared.reach.Reach.{Reach}
 use Rattle.fvn_cmd_exploring.specs.Searches.{setting_of, limits_of, AreExplored}
 use Rattle.fvn_cmd_exploring.specs.Ends.{end_told}
-use Rattle.fvn_cmd_vunify.specs.Asked.{flattened_pairs, theory_unifiers_of}
+use Rattle.fvn_cmd_vunify.specs.Asked.{flattened_pairs, HasFewLevels, theory_unifiers_of}
 
 -- what was found: an exploration of the sides, what was solved of it, and where that is complete the first equation that
 -- loses a sort, if one does
@@ -52,11 +55,15 @@ module _ (m : Contents) (p : Problem) where
   module _ (reach : Reach) where
     -- The sides of the pairs in flat form were explored so far, and the pairs solved in what was found: these are
     -- unifiers with irreducible values, none an instance of another; where the search came to its end, no equation loses
-    -- a sort, and the equations terminate and are confluent, they are all; and the loss of a sort is right.
+    -- a sort, and the equations terminate and are confluent, they are all; the exploration does not end at its last level
+    -- where they are confluent and finitely many variants of the sides within as many steps cover all; and the loss of a
+    -- sort is right.
     pub record IsSolution (found : Found) : Type 0 where
       pub explored : AreExplored m reach (sides_in_turn (flattened_pairs m p)) found.explored
       pub solved : IsSolvedModulo (setting_of m reach) (IsDrawn m.signature) (flattened_pairs m p) (limits_of m reach 1) found.explored found.solved
       pub headline : IsHeadline (theory_unifiers_of m p) (IsWhole found) (values found)
+      pub finite : IsConfluent m.signature (equations_of m.equations) → HasFewLevels m p reach.levels →
+          (v : Variant) → found.explored.end ≡ Levels v → ⊥
       pub loss_is : IsSolvedWhole found → IsLossOf m found.loss
 
     -- no end of the exploration but the complete one has a cause, and no pairs of a variant meet a bound

@@ -18,7 +18,7 @@ use fvn_module::Module;
 use fvn_module_engines::extend;
 use fvn_module_loading::load;
 use fvn_problems::{Problem, problem_names_are_words, problem_names_differ, read_problem};
-use fvn_terms::NoMemory;
+use fvn_terms::{NoMemory, rewriting_is_lawful};
 use fvn_vunify::{
     complete_irreducible_unifiers_are_shortest, flattened_pairs_have_one_theory_answer,
     theory_unifiers_have_irreducible_values,
@@ -40,6 +40,7 @@ fn answer<R: Threads + Sync, G: Gate>(
         search.now.declared.now problem.now search.now.reach a.status (bytes_of a.text)) }
 {
     equal_lines_are_instances();
+    rewriting_is_lawful();
     flattened_pairs_are_given();
     flattened_pairs_have_one_theory_answer();
     theory_unifiers_have_irreducible_values();

@@ -5,6 +5,7 @@ ghost use Rattle.fvn_cmd_vunify.specs.inner.Steps.{AreSides, IsSolvedBy, IsSolve
 
 use fvn_axunify::{AxiomUnify, SolveLimits};
 use fvn_base::limits::{TERM_SYMBOLS, UNIFIERS};
+use fvn_closure::explorations_are_lawful;
 use fvn_cmd_exploring::Search;
 use fvn_cover::Gate;
 use fvn_flat::{AxiomSolver, Pairs};
@@ -37,6 +38,7 @@ fn solved_by<R: Threads + Sync, G: Gate, A: AxiomSolver>(
         size: TERM_SYMBOLS,
     };
     let narrower = Narrower::new(search.alloc, signature, search.rules, solver, bounds);
+    explorations_are_lawful(&narrower);
     let sides = sides_of(search.alloc, given)?;
     let x = explore(
         rt,

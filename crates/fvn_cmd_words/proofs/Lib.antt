@@ -4,4 +4,5 @@ mod Settings
 mod Sorting
 mod Gathering
 pub mod Naming
+mod Keeping
 mod Steps

@@ -12,7 +12,7 @@ use Rattle.fvn_cmd_words.specs.Words.{Word, Command, check, unify, verify, termi
 use Rattle.fvn_cmd_words.specs.declared.command.Command.{Command as Told}
 use Rattle.fvn_cmd_words.specs.Told.{meant, IsRead}
 use Rattle.fvn_cmd_words.specs.Laws.{WordsAreOneCommand}
-use Rattle.fvn_cmd_words.specs.inner.Reading.{TellsAs, word_at, number_of, setting_of, is_bare, has_steps_alone, work_of, reach_of, reach_from, variants_from, vunify_from, verify_from, bare_with, command_with, command_from, command_given, command_of, Given, arguments_of}
+use Rattle.fvn_cmd_words.specs.inner.Reading.{TellsAs, word_at, number_of, setting_of, is_bare, has_steps_alone, standing_of, work_of, reach_of, reach_from, variants_from, vunify_from, verify_from, bare_with, command_with, command_from, command_given, command_of, Given, arguments_of}
 use Rattle.fvn_cmd_words.proofs.Spelling.{passed, number_read, number_spelled}
 use Rattle.fvn_cmd_words.proofs.Settings.{setting_read, setting_given, steps_read, steps_given, bare_is}
 use Rattle.fvn_cmd_words.proofs.Sorting.{word_is}
@@ -35,12 +35,12 @@ reach_parts (Some l) (Some v) (Some s) (Some k) reach workers e =
     let q : (record { levels = l; variants = v; steps = s }, k) ≡ (reach, workers) = Some-injective e in
     (ap (λ (r : Reach × ℕ). Some r.0.levels) q, ap (λ (r : Reach × ℕ). Some r.0.variants) q, ap (λ (r : Reach × ℕ). Some r.0.steps) q, ap (λ (r : Reach × ℕ). Some r.1) q)
 
-search_read : (options : Options) (reach : Reach) (workers : ℕ) → reach_from options ≡ Some (reach, workers) → AreOptionsOf options reach workers
+search_read : (options : Options) (reach : Reach) (workers : ℕ) → reach_from (standing_of options) ≡ Some (reach, workers) → AreOptionsOf options reach workers
 search_read options reach workers e =
     let p = reach_parts (setting_of Levels options) (setting_of Variants options) (setting_of Steps options) (setting_of Workers options) reach workers e in
     record { levels = setting_read options Levels reach.levels p.0; kept = setting_read options Variants reach.variants p.1; steps = setting_read options Steps reach.steps p.2; workers_are = setting_read options Workers workers p.3 }
 
-search_given : (options : Options) (reach : Reach) (workers : ℕ) → AreOptionsOf options reach workers → reach_from options ≡ Some (reach, workers)
+search_given : (options : Options) (reach : Reach) (workers : ℕ) → AreOptionsOf options reach workers → reach_from (standing_of options) ≡ Some (reach, workers)
 search_given options reach workers h =
     ap (λ l. reach_of l (setting_of Variants options) (setting_of Steps options) (setting_of Workers options)) (setting_given options Levels reach.levels h.levels)
     ∙ ap (λ v. reach_of (Some reach.levels) v (setting_of Steps options) (setting_of Workers options)) (setting_given options Variants reach.variants h.kept)
@@ -87,35 +87,35 @@ module _ (name : Word) (words : List Word) where
         is_unify true q f = subst (IsCommand (name ∷ words)) (Some-injective f) (called (codes "unify") (word ∷ []) [] q plainly)
         is_unify false q f = is_terminates (pointwise nat_eq name (codes "terminates")) refl f
 
-    search_by : (given : Word) (reach : Reach) (workers : ℕ) → pointwise nat_eq name given ≡ true → reach_from options ≡ Some (reach, workers) → IsSearchBy given (name ∷ words) word reach workers
+    search_by : (given : Word) (reach : Reach) (workers : ℕ) → pointwise nat_eq name given ≡ true → reach_from (standing_of options) ≡ Some (reach, workers) → IsSearchBy given (name ∷ words) word reach workers
     search_by given reach workers q e = record { options = options; called = called given (word ∷ []) options q a; options_are = search_read options reach workers e }
 
-    one_read : command_with name word options ≡ Some c → IsCommand (name ∷ words) c
+    one_read : command_with name word (standing_of options) ≡ Some c → IsCommand (name ∷ words) c
     one_read e = is_variants (pointwise nat_eq name (codes "variants")) refl e
       where
-        is_vunify : (b : Bool) → pointwise nat_eq name (codes "vunify") ≡ b → (if b then vunify_from word options else (if is_bare options then bare_with name word else None)) ≡ Some c → IsCommand (name ∷ words) c
+        is_vunify : (b : Bool) → pointwise nat_eq name (codes "vunify") ≡ b → (if b then vunify_from word (standing_of options) else (if is_bare options then bare_with name word else None)) ≡ Some c → IsCommand (name ∷ words) c
         is_vunify true q f =
-            let m = mapped (λ (s : Reach × ℕ). vunify word s.0 s.1) (reach_from options) c f in
+            let m = mapped (λ (s : Reach × ℕ). vunify word s.0 s.1) (reach_from (standing_of options)) c f in
             subst (IsCommand (name ∷ words)) m.2 (search_by (codes "vunify") m.0.0 m.0.1 q m.1)
         is_vunify false q f =
             let p = passed (is_bare options) (bare_with name word) c f in
             bare_read (bare_is options p.0) p.1
 
         is_variants : (b : Bool) → pointwise nat_eq name (codes "variants") ≡ b →
-            (if b then variants_from word options else (if pointwise nat_eq name (codes "vunify") then vunify_from word options else (if is_bare options then bare_with name word else None))) ≡ Some c → IsCommand (name ∷ words) c
+            (if b then variants_from word (standing_of options) else (if pointwise nat_eq name (codes "vunify") then vunify_from word (standing_of options) else (if is_bare options then bare_with name word else None))) ≡ Some c → IsCommand (name ∷ words) c
         is_variants true q f =
-            let m = mapped (λ (s : Reach × ℕ). variants word s.0 s.1) (reach_from options) c f in
+            let m = mapped (λ (s : Reach × ℕ). variants word s.0 s.1) (reach_from (standing_of options)) c f in
             subst (IsCommand (name ∷ words)) m.2 (search_by (codes "variants") m.0.0 m.0.1 q m.1)
         is_variants false q f = is_vunify (pointwise nat_eq name (codes "vunify")) refl f
 
-  read_from : (operands : List Word) (options : Options) (c : Command) → AreArguments words operands options → command_from name operands options ≡ Some c → IsCommand (name ∷ words) c
+  read_from : (operands : List Word) (options : Options) (c : Command) → AreArguments words operands options → command_from name operands (standing_of options) ≡ Some c → IsCommand (name ∷ words) c
   read_from [] options c a e =
       let p = passed (pointwise nat_eq name (codes "check") && is_bare options) (Some check) c e in
       let t = and_parts (pointwise nat_eq name (codes "check")) (is_bare options) p.0 in
       subst (IsCommand (name ∷ words)) (Some-injective p.1) (called (codes "check") [] [] t.0 (subst (AreArguments words []) (bare_is options t.1) a))
   read_from (word ∷ []) options c a e = one_read word options a c e
   read_from (word ∷ other ∷ []) options c a e =
-      let p = passed (pointwise nat_eq name (codes "verify")) (verify_from word other options) c e in
+      let p = passed (pointwise nat_eq name (codes "verify")) (verify_from word other (standing_of options)) c e in
       let t = passed (has_steps_alone options) (option_map (verify word other) (setting_of Steps options)) c p.1 in
       let m = mapped (verify word other) (setting_of Steps options) c t.1 in
       subst (IsCommand (name ∷ words)) m.2 (options, called (codes "verify") (word ∷ other ∷ []) options p.0 a, steps_read options t.0, setting_read options Steps m.0 m.1)
@@ -130,7 +130,7 @@ command_read (name ∷ words) c e = go (arguments_of words Usual) refl e
     go (Some g) q f = read_from name words g.0 g.1 c (arguments_read words Usual g q) f
 
 -- And the other way round.
-from_call : (name : Word) (words operands : List Word) (options : Options) → AreCalled name words operands options → command_of words ≡ command_from name operands options
+from_call : (name : Word) (words operands : List Word) (options : Options) → AreCalled name words operands options → command_of words ≡ command_from name operands (standing_of options)
 from_call name words operands options h = ap command_of h.words_are ∙ ap (command_given name) (arguments_given h.arguments)
 
 pub command_told : (words : List Word) (c : Command) → IsCommand words c → command_of words ≡ Some c

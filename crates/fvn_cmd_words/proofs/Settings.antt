@@ -1,14 +1,13 @@
 -- The number that an option has.
-use Rattle.std.proofs.Common.{◌≡◌, ◌⊎◌, ◌≤◌, ◌<◌, ℕ, Bool, true, false, [], ◌∷◌, ◌++◌, ◌+◌, length, drop, get_or, Option, Some, None, inl, inr, refl, sym, ap, ◌∙◌, subst}
+use Rattle.std.proofs.Common.{◌≡◌, ◌⊎◌, ◌≤◌, ℕ, Bool, true, false, [], ◌∷◌, ◌++◌, Option, Some, None, inl, inr, refl, sym, ap, ◌∙◌, subst}
 use Rattle.std.specs.Prelude.{if◌then◌else◌, nat_lt, Contains}
 use Rattle.std.proofs.lemmas.Bool.{ltb-false, le-ltb}
-use Rattle.std.proofs.lemmas.List.{drop_more}
 use Rattle.fvn_base.proofs.Membership.{contains_here, contains_later, contains_cases, contains_none}
 use Rattle.fvn_base.proofs.Options.{Some-injective}
 use Rattle.fvn_cmd_words.specs.declared.options.OptionName.{OptionName}
 use Rattle.fvn_cmd_words.specs.declared.options.OptionName.TheVariants.{Levels, Variants, Steps, Workers}
 use Rattle.fvn_cmd_words.specs.Words.{Options, most, IsNoneOf, IsSet, HaveStepsAlone}
-use Rattle.fvn_cmd_words.specs.inner.Reading.{same_name, one_more, first_one, with_one, once, settled, settled_once, setting_of, has_steps_alone, is_bare}
+use Rattle.fvn_cmd_words.specs.inner.Reading.{same_name, one_more, once, settled, settled_once, setting_of, has_steps_alone, is_bare}
 
 pub itself : (x : OptionName) → same_name x x ≡ true
 itself Levels = refl
@@ -45,7 +44,7 @@ other : (x : OptionName) (option : OptionName × ℕ) → same_name option.0 x �
 other x option f e = let t : true ≡ false = sym (subst (λ y. same_name y x ≡ true) (sym e) (itself x)) ∙ f in cc
 
 -- what is found: what was found before, and the option stands no more; or the one number with which it stands
-data IsFound (x : OptionName) (found : Option ℕ) (options : Options) (told : Option ℕ) : Type 0 where
+pub data IsFound (x : OptionName) (found : Option ℕ) (options : Options) (told : Option ℕ) : Type 0 where
   as_before : told ≡ found → IsNoneOf x options → IsFound x found options told
   this_one : (n : ℕ) (before after : Options) → found ≡ None → told ≡ Some n → options ≡ before ++ (x, n) ∷ after → IsNoneOf x before → IsNoneOf x after → IsFound x found options told
 
@@ -56,10 +55,10 @@ one_later x found told option options n (this_one m before after e t s b a) = th
 none_listed : (x : OptionName) → IsNoneOf x []
 none_listed x n c = contains_none (x, n) c
 
-is_this : (x : OptionName) (option : OptionName × ℕ) → option.0 ≡ x → option ≡ (x, option.1)
+pub is_this : (x : OptionName) (option : OptionName × ℕ) → option.0 ≡ x → option ≡ (x, option.1)
 is_this x option e i = (e i, option.1)
 
-once_found : (x : OptionName) (options : Options) (found told : Option ℕ) → once x found options ≡ Some told → IsFound x found options told
+pub once_found : (x : OptionName) (options : Options) (found told : Option ℕ) → once x found options ≡ Some told → IsFound x found options told
 once_found x [] found told e = as_before (sym (Some-injective e)) (none_listed x)
 once_found x (option ∷ options) found told e = go (same_name option.0 x) refl found refl e (λ f h. once_found x options f told h)
   where
@@ -72,7 +71,7 @@ once_found x (option ∷ options) found told e = go (same_name option.0 x) refl 
     go true s None q h rest = first None refl (rest (Some option.1) h) (same_is option.0 x s)
     go true s (Some m) q h rest = cc
 
-once_none : (x : OptionName) (options : Options) (found : Option ℕ) → IsNoneOf x options → once x found options ≡ Some found
+pub once_none : (x : OptionName) (options : Options) (found : Option ℕ) → IsNoneOf x options → once x found options ≡ Some found
 once_none x [] found h = refl
 once_none x (option ∷ options) found h = go (same_name option.0 x) refl (once_none x options found (λ n c. h n (contains_later option options (x, n) c)))
   where
@@ -148,30 +147,3 @@ steps_given (option ∷ options) h =
 pub bare_is : (options : Options) → is_bare options ≡ true → options ≡ []
 bare_is [] e = refl
 bare_is (option ∷ options) e = cc
-
--- One option more.
-pub once_on : (x : OptionName) (found : Option ℕ) (option : OptionName × ℕ) (options : Options) (more : Option ℕ) → with_one x found option ≡ Some more → once x found (option ∷ options) ≡ once x more options
-once_on x found option options more e = go (same_name option.0 x) found e
-  where
-    go : (b : Bool) (f : Option ℕ) → (if b then first_one f option.1 else Some f) ≡ Some more → one_more b f (once x f options) (once x (Some option.1) options) ≡ once x more options
-    go false f h = ap (λ m. once x m options) (Some-injective h)
-    go true None h = ap (λ m. once x m options) (Some-injective h)
-    go true (Some m) h = cc
-
-pub once_off : (x : OptionName) (found : Option ℕ) (option : OptionName × ℕ) (options : Options) → with_one x found option ≡ None → once x found (option ∷ options) ≡ None
-once_off x found option options e = go (same_name option.0 x) found e
-  where
-    go : (b : Bool) (f : Option ℕ) → (if b then first_one f option.1 else Some f) ≡ None → one_more b f (once x f options) (once x (Some option.1) options) ≡ None
-    go false f h = cc
-    go true None h = cc
-    go true (Some m) h = refl
-
-pub steps_on : (option : OptionName × ℕ) (options : Options) → same_name option.0 Steps ≡ true → has_steps_alone (option ∷ options) ≡ has_steps_alone options
-steps_on option options e = ap (λ b. if b then has_steps_alone options else false) e
-
-pub steps_off : (option : OptionName × ℕ) (options : Options) → same_name option.0 Steps ≡ false → has_steps_alone (option ∷ options) ≡ false
-steps_off option options e = ap (λ b. if b then has_steps_alone options else false) e
-
--- what stands at a place
-pub option_there : (options : Options) (i : ℕ) (option : OptionName × ℕ) → i < length options → option ≡ get_or options i option → drop i options ≡ option ∷ drop (i + 1) options
-option_there options i option within is = drop_more options i option within ∙ ap (λ o. o ∷ drop (i + 1) options) (sym is)

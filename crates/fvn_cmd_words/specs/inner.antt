@@ -1,2 +1,3 @@
--- The reader of words, as a function.
+-- The reader of words, as a function, and what it keeps.
 pub mod Reading
+pub mod Keeping

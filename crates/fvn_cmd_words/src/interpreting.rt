@@ -1,13 +1,15 @@
 //! The command that a name, operands and options are.
 ghost use Rattle.std.specs.Prelude.{◌≡◌, length, map, string_bytes, MatchOption, IfSome, None, Some};
 ghost use Rattle.fvn_cmd_words.specs.Told.{IsSearchWithin};
-ghost use Rattle.fvn_cmd_words.specs.inner.Reading.{has_steps_alone, work_of, reach_from, variants_from, vunify_from, verify_from, bare_with, command_with, command_with_two, command_alone, command_from, number_of, word_at, TellsAs, AllBelow};
+ghost use Rattle.fvn_cmd_words.specs.inner.Reading.{work_of, reach_from, variants_from, vunify_from, verify_from, bare_with, command_with, command_with_two, command_alone, command_from, number_of, TellsAs};
+ghost use Rattle.fvn_cmd_words.specs.inner.Keeping.{standing_in, operands_of, AreBelow};
 
 use crate::command::Command;
 use crate::limits::{LEAST_WORK, MOST_WORK};
 use crate::numbers::number;
-use crate::options::{OptionName, same_name, setting};
+use crate::options::{OptionName, Settings, is_bare, is_steps_alone, setting};
 use crate::reach::Reach;
+use crate::reading::Places;
 use std::string::String;
 
 // How far to search, and with how many workers.
@@ -17,33 +19,22 @@ struct Search {
     workers: u64,
 }
 
-// Whether no other option than `--steps` stands.
-fn has_steps_alone(options: &[(OptionName, u64)]) -> bool
-    ensures { result ≡ has_steps_alone options.now }
-{
-    for i in 0..options.len() {
-        if !same_name(options[i].0, OptionName::Steps) {
-            return false;
-        }
-    }
-    true
-}
-
 // How far to search, as the options tell.
-fn search_set(options: &[(OptionName, u64)]) -> Option<Search>
-    ensures exact { MatchOption result (reach_from options.now ≡ None) (λ s. reach_from options.now ≡ Some (s.reach, s.workers)) }
+fn search_set(set: Settings) -> Option<Search>
+    ensures exact { MatchOption result (reach_from (standing_in set) ≡ None)
+        (λ s. reach_from (standing_in set) ≡ Some (s.reach, s.workers)) }
     ensures within { IfSome result (λ s. IsSearchWithin s.reach s.workers) }
 {
-    let Some(levels) = setting(options, OptionName::Levels) else {
+    let Some(levels) = setting(set, OptionName::Levels) else {
         return None;
     };
-    let Some(kept) = setting(options, OptionName::Variants) else {
+    let Some(kept) = setting(set, OptionName::Variants) else {
         return None;
     };
-    let Some(steps) = setting(options, OptionName::Steps) else {
+    let Some(steps) = setting(set, OptionName::Steps) else {
         return None;
     };
-    let Some(workers) = setting(options, OptionName::Workers) else {
+    let Some(workers) = setting(set, OptionName::Workers) else {
         return None;
     };
     let reach = Reach {
@@ -71,20 +62,20 @@ fn work(word: &[u8]) -> Option<Command<'static>>
 }
 
 // A search for variants of a term.
-fn variants<'a>(word: &'a [u8], options: &[(OptionName, u64)]) -> Option<Command<'a>>
-    ensures { TellsAs (variants_from word.now options.now) result }
+fn variants<'a>(word: &'a [u8], set: Settings) -> Option<Command<'a>>
+    ensures { TellsAs (variants_from word.now (standing_in set)) result }
 {
-    match search_set(options) {
+    match search_set(set) {
         None => None,
         Some(s) => Some(Command::Variants(word, s.reach, s.workers)),
     }
 }
 
 // A search for unifiers modulo the equations.
-fn vunify<'a>(word: &'a [u8], options: &[(OptionName, u64)]) -> Option<Command<'a>>
-    ensures { TellsAs (vunify_from word.now options.now) result }
+fn vunify<'a>(word: &'a [u8], set: Settings) -> Option<Command<'a>>
+    ensures { TellsAs (vunify_from word.now (standing_in set)) result }
 {
-    match search_set(options) {
+    match search_set(set) {
         None => None,
         Some(s) => Some(Command::Vunify(word, s.reach, s.workers)),
     }
@@ -107,20 +98,16 @@ fn bare_with<'a>(name: &[u8], word: &'a [u8]) -> Option<Command<'a>>
 }
 
 // The command of this name with one operand.
-fn command_with<'a>(
-    name: &[u8],
-    word: &'a [u8],
-    options: &[(OptionName, u64)],
-) -> Option<Command<'a>>
-    ensures { TellsAs (command_with name.now word.now options.now) result }
+fn command_with<'a>(name: &[u8], word: &'a [u8], set: Settings) -> Option<Command<'a>>
+    ensures { TellsAs (command_with name.now word.now (standing_in set)) result }
 {
     if name == b"variants".as_slice() {
-        return variants(word, options);
+        return variants(word, set);
     }
     if name == b"vunify".as_slice() {
-        return vunify(word, options);
+        return vunify(word, set);
     }
-    if options.is_empty() {
+    if is_bare(set) {
         bare_with(name, word)
     } else {
         None
@@ -128,17 +115,13 @@ fn command_with<'a>(
 }
 
 // `verify` and its steps.
-fn verify<'a>(
-    problem: &'a [u8],
-    bindings: &'a [u8],
-    options: &[(OptionName, u64)],
-) -> Option<Command<'a>>
-    ensures { TellsAs (verify_from problem.now bindings.now options.now) result }
+fn verify<'a>(problem: &'a [u8], bindings: &'a [u8], set: Settings) -> Option<Command<'a>>
+    ensures { TellsAs (verify_from problem.now bindings.now (standing_in set)) result }
 {
-    if !has_steps_alone(options) {
+    if !is_steps_alone(set) {
         return None;
     }
-    match setting(options, OptionName::Steps) {
+    match setting(set, OptionName::Steps) {
         None => None,
         Some(steps) => Some(Command::Verify(problem, bindings, steps)),
     }
@@ -149,21 +132,21 @@ fn command_with_two<'a>(
     name: &[u8],
     problem: &'a [u8],
     bindings: &'a [u8],
-    options: &[(OptionName, u64)],
+    set: Settings,
 ) -> Option<Command<'a>>
-    ensures { TellsAs (command_with_two name.now problem.now bindings.now options.now) result }
+    ensures { TellsAs (command_with_two name.now problem.now bindings.now (standing_in set)) result }
 {
     if name == b"verify".as_slice() {
-        return verify(problem, bindings, options);
+        return verify(problem, bindings, set);
     }
     None
 }
 
 // The command of this name without operands.
-fn command_alone(name: &[u8], options: &[(OptionName, u64)]) -> Option<Command<'static>>
-    ensures { TellsAs (command_alone name.now options.now) result }
+fn command_alone(name: &[u8], set: Settings) -> Option<Command<'static>>
+    ensures { TellsAs (command_alone name.now (standing_in set)) result }
 {
-    if name == b"check".as_slice() && options.is_empty() {
+    if name == b"check".as_slice() && is_bare(set) {
         return Some(Command::Check);
     }
     None
@@ -173,25 +156,16 @@ fn command_alone(name: &[u8], options: &[(OptionName, u64)]) -> Option<Command<'
 pub(crate) fn command_at<'a>(
     name: &[u8],
     words: &'a [String],
-    operands: &[usize],
-    options: &[(OptionName, u64)],
+    operands: Places,
+    set: Settings,
 ) -> Option<Command<'a>>
-    requires { AllBelow (length words.now) operands.now }
-    ensures { TellsAs (command_from name.now (map (word_at (map string_bytes words.now)) operands.now) options.now) result }
+    requires { AreBelow (length words.now) operands }
+    ensures { TellsAs (command_from name.now (operands_of (map string_bytes words.now) operands)
+        (standing_in set)) result }
 {
-    if operands.len() == 0 {
-        return command_alone(name, options);
+    match operands {
+        Places::Zero => command_alone(name, set),
+        Places::One(i) => command_with(name, words[i].as_bytes(), set),
+        Places::Two(i, j) => command_with_two(name, words[i].as_bytes(), words[j].as_bytes(), set),
     }
-    if operands.len() == 1 {
-        return command_with(name, words[operands[0]].as_bytes(), options);
-    }
-    if operands.len() == 2 {
-        return command_with_two(
-            name,
-            words[operands[0]].as_bytes(),
-            words[operands[1]].as_bytes(),
-            options,
-        );
-    }
-    None
 }

@@ -1,7 +1,8 @@
 //! Options, and the numbers that they are set to.
-ghost use Rattle.std.specs.Prelude.{◌≡◌, ◌≤◌, None, IfSome};
+ghost use Rattle.std.specs.Prelude.{◌≡◌, ◌≤◌, IfSome};
 ghost use Rattle.fvn_cmd_words.specs.Words.{usual, most};
-ghost use Rattle.fvn_cmd_words.specs.inner.Reading.{same_name, with_one, once, settled, setting_of};
+ghost use Rattle.fvn_cmd_words.specs.inner.Keeping.{told, with_set, set_once, is_bare_set, is_steps_alone, setting_in};
+ghost use Rattle.fvn_cmd_words.specs.inner.Reading.{settled};
 
 use crate::limits::{
     LEVELS, MOST_LEVELS, MOST_STEPS, MOST_VARIANTS, MOST_WORKERS, STEPS, USUAL_WORKERS, VARIANTS,
@@ -14,6 +15,15 @@ pub enum OptionName {
     Variants,
     Steps,
     Workers,
+}
+
+// The number that each option is set to, if it is.
+#[derive(Clone, Copy)]
+pub(crate) struct Settings {
+    pub(crate) levels: Option<u64>,
+    pub(crate) variants: Option<u64>,
+    pub(crate) steps: Option<u64>,
+    pub(crate) workers: Option<u64>,
 }
 
 // The number that it has where the words do not tell.
@@ -40,64 +50,94 @@ fn most(x: OptionName) -> u64
     }
 }
 
-// Whether the two are one option.
-pub(crate) fn same_name(x: OptionName, y: OptionName) -> bool
-    ensures { result ≡ same_name x y }
+// The number that the option is set to.
+fn told(set: Settings, x: OptionName) -> Option<u64>
+    ensures { result ≡ told x set }
 {
     match x {
-        OptionName::Levels => match y {
-            OptionName::Levels => true,
-            OptionName::Variants => false,
-            OptionName::Steps => false,
-            OptionName::Workers => false,
+        OptionName::Levels => set.levels,
+        OptionName::Variants => set.variants,
+        OptionName::Steps => set.steps,
+        OptionName::Workers => set.workers,
+    }
+}
+
+// The settings with this one.
+fn with_set(set: Settings, x: OptionName, n: u64) -> Settings
+    ensures { result ≡ with_set x n set }
+{
+    let Settings {
+        levels,
+        variants,
+        steps,
+        workers,
+    } = set;
+    let number = Some(n);
+    match x {
+        OptionName::Levels => Settings {
+            levels: number,
+            variants,
+            steps,
+            workers,
         },
-        OptionName::Variants => match y {
-            OptionName::Levels => false,
-            OptionName::Variants => true,
-            OptionName::Steps => false,
-            OptionName::Workers => false,
+        OptionName::Variants => Settings {
+            levels,
+            variants: number,
+            steps,
+            workers,
         },
-        OptionName::Steps => match y {
-            OptionName::Levels => false,
-            OptionName::Variants => false,
-            OptionName::Steps => true,
-            OptionName::Workers => false,
+        OptionName::Steps => Settings {
+            levels,
+            variants,
+            steps: number,
+            workers,
         },
-        OptionName::Workers => match y {
-            OptionName::Levels => false,
-            OptionName::Variants => false,
-            OptionName::Steps => false,
-            OptionName::Workers => true,
+        OptionName::Workers => Settings {
+            levels,
+            variants,
+            steps,
+            workers: number,
         },
     }
 }
 
-// The number that was found, with one option more; nothing where it is the second of its name.
-fn with_one(found: Option<u64>, option: (OptionName, u64), x: OptionName) -> Option<Option<u64>>
-    ensures { result ≡ with_one x found option }
+// The settings with one more; nothing for the second of its name.
+pub(crate) fn set_once(set: Settings, x: OptionName, n: u64) -> Option<Settings>
+    ensures { result ≡ set_once x n set }
 {
-    if !same_name(option.0, x) {
-        return Some(found);
-    }
-    match found {
+    match told(set, x) {
         Some(_) => None,
-        None => Some(Some(option.1)),
+        None => Some(with_set(set, x, n)),
     }
 }
 
-// The number that the option is set to, nothing where it stands twice.
-fn once(options: &[(OptionName, u64)], x: OptionName) -> Option<Option<u64>>
-    ensures { result ≡ once x None options.now }
+// Whether no option is set.
+pub(crate) fn is_bare(set: Settings) -> bool
+    ensures { result ≡ is_bare_set set }
 {
-    let mut found = None;
-    for i in 0..options.len() {
-        let more = with_one(found, options[i], x);
-        match more {
-            None => return None,
-            Some(told) => found = told,
-        }
+    if set.levels.is_some() {
+        return false;
     }
-    Some(found)
+    if set.variants.is_some() {
+        return false;
+    }
+    if set.steps.is_some() {
+        return false;
+    }
+    set.workers.is_none()
+}
+
+// Whether no other option than `--steps` is set.
+pub(crate) fn is_steps_alone(set: Settings) -> bool
+    ensures { result ≡ is_steps_alone set }
+{
+    if set.levels.is_some() {
+        return false;
+    }
+    if set.variants.is_some() {
+        return false;
+    }
+    set.workers.is_none()
 }
 
 // The number in its range; the usual one where none is told.
@@ -119,12 +159,9 @@ fn settled(x: OptionName, told: Option<u64>) -> Option<u64>
 }
 
 // The number that the option has.
-pub(crate) fn setting(options: &[(OptionName, u64)], x: OptionName) -> Option<u64>
-    ensures exact { result ≡ setting_of x options.now }
+pub(crate) fn setting(set: Settings, x: OptionName) -> Option<u64>
+    ensures exact { result ≡ setting_in x set }
     ensures range { IfSome result (λ n. (1 ≤ n) × (n ≤ most x)) }
 {
-    match once(options, x) {
-        None => None,
-        Some(told) => settled(x, told),
-    }
+    settled(x, told(set, x))
 }

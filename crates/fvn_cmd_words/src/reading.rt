@@ -1,118 +1,123 @@
 //! Reading the words of the command line.
-ghost use Rattle.std.specs.Prelude.{◌≤◌, length, map, string_bytes, IfOk};
+ghost use Rattle.std.specs.Prelude.{◌≡◌, ◌≤◌, length, map, string_bytes};
 ghost use Rattle.fvn_cmd_words.specs.Told.{IsRead};
-ghost use Rattle.fvn_cmd_words.specs.inner.Reading.{TakenAs, ClosedAs, ReadAs};
+ghost use Rattle.fvn_cmd_words.specs.inner.Keeping.{with_place, taken, ClosedAs, ReadAs};
 
 use crate::command::Command;
 use crate::interpreting::command_at;
 use crate::kinds::{Mode, Next, next_of};
-use crate::options::OptionName;
-use fvn_terms::NoMemory;
-use std::alloc::Global;
+use crate::options::{Settings, set_once};
 use std::string::String;
 
-// The places of operands among the words, and options.
-#[derive(Drop)]
-pub(crate) struct Arguments {
-    pub(crate) operands: Vec<usize>,
-    pub(crate) options: Vec<(OptionName, u64)>,
+// The places of operands among the words: no command has more than two.
+#[derive(Clone, Copy)]
+pub(crate) enum Places {
+    Zero,
+    One(usize),
+    Two(usize, usize),
 }
 
-// The same so far, and what is awaited.
-#[derive(Drop)]
+// What was read so far, and what is awaited.
+#[derive(Clone, Copy)]
 pub(crate) struct State {
     pub(crate) mode: Mode,
-    pub(crate) operands: Vec<usize>,
-    pub(crate) options: Vec<(OptionName, u64)>,
+    pub(crate) operands: Places,
+    pub(crate) set: Settings,
 }
 
-// The state behind one more word, which stands at this place; nothing where it is wrong.
-fn taken(state: State, i: usize, next: Next) -> Result<Option<State>, NoMemory>
-    ensures { IfOk result (TakenAs next i state) }
+// One operand more; nothing for a third.
+fn with_place(operands: Places, i: usize) -> Option<Places>
+    ensures { result ≡ with_place i operands }
 {
-    let State {
-        mode,
-        mut operands,
-        mut options,
-    } = state;
-    match next {
-        Next::Operand => {
-            operands.push(i)?;
-            Ok(Some(State {
-                mode,
-                operands,
-                options,
-            }))
-        }
-        Next::Set(x, n) => {
-            options.push((x, n))?;
-            Ok(Some(State {
-                mode: Mode::Usual,
-                operands,
-                options,
-            }))
-        }
-        Next::To(other) => Ok(Some(State {
-            mode: other,
-            operands,
-            options,
-        })),
-        Next::Wrong => Ok(None),
+    match operands {
+        Places::Zero => Some(Places::One(i)),
+        Places::One(first) => Some(Places::Two(first, i)),
+        Places::Two(_, _) => None,
     }
 }
 
-// What is read where the words end.
-fn closed(state: State) -> Option<Arguments>
-    ensures { ClosedAs state result }
+// The state behind one more word, which stands at this place; nothing where it is wrong, or one too many.
+fn taken(state: State, i: usize, next: Next) -> Option<State>
+    ensures { result ≡ taken next i state }
 {
     let State {
         mode,
         operands,
-        options,
+        set,
     } = state;
-    match mode {
-        Mode::Usual => Some(Arguments { operands, options }),
-        Mode::Value(_) => None,
-        Mode::Operands => Some(Arguments { operands, options }),
+    match next {
+        Next::Operand => match with_place(operands, i) {
+            None => None,
+            Some(operands) => Some(State {
+                mode,
+                operands,
+                set,
+            }),
+        },
+        Next::Set(x, n) => match set_once(set, x, n) {
+            None => None,
+            Some(set) => Some(State {
+                mode: Mode::Usual,
+                operands,
+                set,
+            }),
+        },
+        Next::To(mode) => Some(State {
+            mode,
+            operands,
+            set,
+        }),
+        Next::Wrong => None,
     }
 }
 
-// The operands and options behind the name.
-fn arguments_of(alloc: Global, words: &[String]) -> Result<Option<Arguments>, NoMemory>
+// What was read, where the words end.
+fn closed(state: State) -> Option<State>
+    ensures { ClosedAs state result }
+{
+    match state.mode {
+        Mode::Usual => Some(state),
+        Mode::Value(_) => None,
+        Mode::Operands => Some(state),
+    }
+}
+
+// The operands and options behind the name; nothing where they are those of no command.
+fn arguments_of(words: &[String]) -> Option<State>
     requires { 1 ≤ length words.now }
-    ensures { IfOk result (ReadAs (map string_bytes words.now)) }
+    ensures { ReadAs (map string_bytes words.now) result }
 {
     let mut state = State {
         mode: Mode::Usual,
-        operands: Vec::new(alloc),
-        options: Vec::new(alloc),
+        operands: Places::Zero,
+        set: Settings {
+            levels: None,
+            variants: None,
+            steps: None,
+            workers: None,
+        },
     };
     for i in 1..words.len() {
         let now = next_of(state.mode, words[i].as_bytes());
-        let more = taken(state, i, now)?;
+        let more = taken(state, i, now);
         match more {
-            None => return Ok(None),
+            None => return None,
             Some(other) => state = other,
         }
     }
-    Ok(closed(state))
+    closed(state)
 }
 
 /// The command that the words are; nothing exactly where they are none.
-pub fn read_command(alloc: Global, words: &[String]) -> Result<Option<Command<'_>>, NoMemory>
-    ensures { IfOk result (IsRead (map string_bytes words.now)) }
+pub fn read_command(words: &[String]) -> Option<Command<'_>>
+    ensures { IsRead (map string_bytes words.now) result }
 {
     if words.is_empty() {
-        return Ok(None);
+        return None;
     }
-    let read = arguments_of(alloc, words)?;
+    let read = arguments_of(words);
     match read {
-        None => Ok(None),
-        Some(given) => Ok(command_at(
-            words[0].as_bytes(),
-            words,
-            given.operands.as_slice(),
-            given.options.as_slice(),
-        )),
+        None => None,
+        Some(state) => command_at(words[0].as_bytes(), words, state.operands, state.set),
     }
 }

@@ -1,25 +1,44 @@
 -- What is said of all values that go with a state is said of each unifier that it admits.
-use Rattle.std.proofs.Common.{◌≡◌, List, [], ◌∷◌, ◌++◌}
+use Rattle.std.proofs.Common.{◌≡◌, ◌≢◌, ℕ, ◌<◌, List, [], ◌∷◌, ◌++◌, length, sym, ◌∙◌, arith}
 use Rattle.fvn_terms.specs.Substitution.{Substitution}
 use Rattle.fvn_flat.specs.Solving.{problem_of}
-use Rattle.fvn_combine_nodes.specs.States.{IsClosed}
-use Rattle.fvn_combine_nodes.specs.Unifiers.{value_at}
+use Rattle.fvn_combine_nodes.specs.States.{IsClosed, class_of}
+use Rattle.fvn_combine_nodes.specs.Unifiers.{value_at, kernel}
 use Rattle.fvn_combine_nodes.specs.declared.state.State.{State}
+use Rattle.fvn_combine_nodes.proofs.Kernels.{same_class, same_value}
 use Rattle.fvn_combine_complete.specs.Laws.{UnifiersGoWith}
-use Rattle.fvn_combine_inferring.specs.Inferred.{HasNoValues}
+use Rattle.fvn_combine_inferring.specs.Inferred.{HasNoValues, HaveOneValue, HaveTwoValues}
 use Rattle.fvn_combine.specs.Tasks.{Combining, IsCombining}
 use Rattle.fvn_combine.specs.inner.Found.{IsAdmittedBy, IsLookedAt, IsLooked}
 use Rattle.fvn_combine.specs.declared.looking.Looked.{Looked}
-use Rattle.fvn_combine.specs.declared.looking.Looked.TheVariants.{Over, Open, Passed, Refused, Leaf}
+use Rattle.fvn_combine.specs.declared.looking.Looked.TheVariants.{Over, Open, Together, Apart, Passed, Refused, Leaf}
 
 pub none_admitted : (k : Combining) → IsCombining k → UnifiersGoWith → (s : State) → IsClosed k.declarations k.table s → HasNoValues k.declarations k.table s → (u : Substitution) → IsAdmittedBy k s u → ⊥
 none_admitted k is law s closed none u h =
-    none (value_at k.declarations u k.table.nodes) (law k.declarations is.good.fits (problem_of k.given) is.is_given.kinds k.table is.well_made is.table_of u h.0 s closed h.1)
+    none (value_at k.declarations u k.table.nodes) (law k.declarations is.good.fits (problem_of k.given) is.is_given.kinds k.table is.well_made is.table_of u h.0.unifies s closed h.1)
+
+-- nodes that have one value under all are in one class of its partition
+pub together_admitted : (k : Combining) → IsCombining k → UnifiersGoWith → (s : State) → IsClosed k.declarations k.table s → (i j : ℕ) → i < length k.table.nodes → j < length k.table.nodes → HaveOneValue k.declarations k.table s i j
+    → (u : Substitution) → IsAdmittedBy k s u → kernel k.declarations u k.table.nodes i ≡ kernel k.declarations u k.table.nodes j
+together_admitted k is law s closed i j l m one u h =
+    let w = closed.whole in
+    let e = one (value_at k.declarations u k.table.nodes) (law k.declarations is.good.fits (problem_of k.given) is.is_given.kinds k.table is.well_made is.table_of u h.0.unifies s closed h.1) in
+    h.1.together i (omega (arith, l, w)) ∙ same_class k.declarations u k.table.nodes (class_of s i) (class_of s j) e ∙ sym (h.1.together j (omega (arith, m, w)))
+
+-- nodes that have two values under all are in two classes
+pub apart_admitted : (k : Combining) → IsCombining k → UnifiersGoWith → (s : State) → IsClosed k.declarations k.table s → (i j : ℕ) → i < length k.table.nodes → j < length k.table.nodes → HaveTwoValues k.declarations k.table s i j
+    → (u : Substitution) → IsAdmittedBy k s u → kernel k.declarations u k.table.nodes i ≢ kernel k.declarations u k.table.nodes j
+apart_admitted k is law s closed i j l m two u h e =
+    let w = closed.whole in
+    two (value_at k.declarations u k.table.nodes) (law k.declarations is.good.fits (problem_of k.given) is.is_given.kinds k.table is.well_made is.table_of u h.0.unifies s closed h.1)
+    (same_value k.declarations u k.table.nodes (class_of s i) (class_of s j) (sym (h.1.together i (omega (arith, l, w))) ∙ e ∙ h.1.together j (omega (arith, m, w))))
 
 -- what is asked for by the last state is asked for by the tree
 pub looked_last : (k : Combining) (states below : List State) (s : State) → states ≡ below ++ s ∷ [] → (r : Looked) → IsLookedAt k s r → IsLooked k states r
 looked_last k states below s is Over h = absurd h
 looked_last k states below s is (Open i j) h = record { below = below; last = s; is = is; looked = h }
+looked_last k states below s is (Together i j) h = record { below = below; last = s; is = is; looked = h }
+looked_last k states below s is (Apart i j) h = record { below = below; last = s; is = is; looked = h }
 looked_last k states below s is Passed h = record { below = below; last = s; is = is; looked = h }
 looked_last k states below s is (Refused f system) h = record { below = below; last = s; is = is; looked = h }
 looked_last k states below s is (Leaf o) h = record { below = below; last = s; is = is; looked = h }

@@ -67,7 +67,7 @@ module _ (k : Combining) (few : SumOperatorsAreFew) (s : State) (r : Reading) (r
   few_sums : length r.sums ≤ length k.table.subterms
   few_sums = few k.declarations k.table (class_of s) r reading
 
-  few_shared : (shared : List SharedClass) → AreSharedClasses k.declarations k.table (class_of s) shared → length shared ≤ length k.table.nodes
+  few_shared : (shared : List SharedClass) → AreSharedClasses k.declarations k.table (class_of s) k.sorted shared → length shared ≤ length k.table.nodes
   few_shared shared are =
       let n = length-le_below (classes_of shared) (length k.table.nodes) are.distinct within in
       let m = length-map shared (λ (c : SharedClass). c.class) in
@@ -80,7 +80,7 @@ module _ (k : Combining) (few : SumOperatorsAreFew) (s : State) (r : Reading) (r
           subst (λ y. y < length k.table.nodes) c.1.1 each
 
   -- a leaf has few tags
-  pub few_tags : (shared : List SharedClass) → AreSharedClasses k.declarations k.table (class_of s) shared → All (λ c. length c.users ≤ length r.sums) shared → product (tag_counts shared) ≤ most_tags k
+  pub few_tags : (shared : List SharedClass) → AreSharedClasses k.declarations k.table (class_of s) k.sorted shared → All (λ c. length c.users ≤ length r.sums) shared → product (tag_counts shared) ≤ most_tags k
   unfolding most_tags
   few_tags shared are users = product-le (λ (c : SharedClass). length c.users + 1) (length k.table.subterms + 1) (length k.table.nodes) shared (omega arith)
       (λ i d l. let u = users i d l in let m = few_sums in omega (arith, u, m)) (few_shared shared are)

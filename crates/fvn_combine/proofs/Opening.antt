@@ -14,8 +14,8 @@ use Rattle.fvn_acunify_product.specs.Tags.{Tagging, IsOption, PendingTags}
 use Rattle.fvn_combine_choices.specs.Choosing.{Choice}
 use Rattle.fvn_combine_choices.specs.Plans.{AreOfOneKind}
 use Rattle.fvn_combine_admissible.specs.Listed.{systems_of}
-use Rattle.fvn_combine_complete.specs.CoveringChoices.{IsCovering}
-use Rattle.fvn_combine_complete.specs.Laws.{LeavesCover, ReadingsTell}
+use Rattle.fvn_combine_complete.specs.Laws.{ReadingsTell}
+use Rattle.fvn_combine_bounds.specs.Laws.{SortedLeavesCover}
 use Rattle.fvn_combine_leaves.specs.Bases.{AreBases}
 use Rattle.fvn_combine_candidates.specs.Laws.{BasesMakeSystems, CoveringChoicesAreListed}
 use Rattle.fvn_combine_candidates.specs.Sharing.{AreSharedClasses}
@@ -23,7 +23,7 @@ use Rattle.fvn_combine_candidates.specs.Tags.{tag_counts}
 use Rattle.fvn_combine_candidates.specs.declared.sharing.SharedClass.{SharedClass}
 use Rattle.fvn_combine_triangular.specs.Ready.{IsReady}
 use Rattle.fvn_combine.specs.Tasks.{Combining, IsCombining}
-use Rattle.fvn_combine.specs.Leaves.{IsOpened, IsCoveredToCome}
+use Rattle.fvn_combine.specs.Leaves.{IsSortedCovering, IsOpened, IsCoveredToCome}
 use Rattle.fvn_combine.specs.declared.opened.Opened.{Opened}
 use Rattle.fvn_combine.specs.inner.Found.{IsAdmittedBy}
 use Rattle.fvn_combine.proofs.Room.{room}
@@ -46,7 +46,7 @@ module _ (k : Combining) (is : IsCombining k) (s : State) where
     kinds = kinds;
   }
 
-  module _ (r : Reading) (bases : List (List Solution)) (shared : List SharedClass) (tags : Tagging) (ready : IsReady k.declarations k.given k.first k.table s) (reading : IsReading k.declarations k.table (class_of s) r) (are_shared : AreSharedClasses k.declarations k.table (class_of s) shared) where
+  module _ (r : Reading) (bases : List (List Solution)) (shared : List SharedClass) (tags : Tagging) (ready : IsReady k.declarations k.given k.first k.table s) (reading : IsReading k.declarations k.table (class_of s) r) (are_shared : AreSharedClasses k.declarations k.table (class_of s) k.sorted shared) where
     abbrev opened_leaf : Opened
     opened_leaf = record { reading = r; bases = bases; shared = shared; tags = tags; turning = None }
 
@@ -61,21 +61,21 @@ module _ (k : Combining) (is : IsCombining k) (s : State) where
       turning = λ v e. cc;
     }
 
-    pub all_to_come : CoveringChoicesAreListed → tags.counts ≡ tag_counts shared → ((options : List ℕ) → AllZip IsOption tags.counts options → PendingTags tags options) → (u : Substitution) (c : Choice) → IsCovering k.declarations (problem_of k.given) k.table s (systems_of r bases) u c → IsCoveredToCome k s opened_leaf u
-    all_to_come law counts pending u c covering =
-        let l = law k.declarations (problem_of k.given) k.table is.well_made s ready.closed r reading shared are_shared (systems_of r bases) u c covering in
+    pub all_to_come : CoveringChoicesAreListed → tags.counts ≡ tag_counts shared → ((options : List ℕ) → AllZip IsOption tags.counts options → PendingTags tags options) → (u : Substitution) (c : Choice) → IsSortedCovering k s r bases u c → IsCoveredToCome k s opened_leaf u
+    all_to_come law counts pending u c h =
+        let l = law k.declarations (problem_of k.given) k.table is.well_made s ready.closed r reading k.sorted shared are_shared (systems_of r bases) u c h.covering h.bounds in
         inr (record {
           options = l.0;
           pending = pending l.0 (subst (λ n. AllZip IsOption n l.0) (sym counts) l.2);
           numbers = l.1;
           as_many = l.3;
-          covered = l.4;
+          covered = λ others are. let listed = l.4 others are in record { covering = listed.0; bounds = listed.1 };
         })
 
-  -- each unifier that the state admits is covered by a choice that is to come
-  pub covers_admitted : LeavesCover → ReadingsTell → BasesMakeSystems → (o : Opened) → IsOpened k s o → ((u : Substitution) (c : Choice) → IsCovering k.declarations (problem_of k.given) k.table s (systems_of o.reading o.bases) u c → IsCoveredToCome k s o u) → (u : Substitution) → IsAdmittedBy k s u → IsCoveredToCome k s o u
+  -- each unifier that is asked for and that the state admits is covered by a choice that is to come
+  pub covers_admitted : SortedLeavesCover → ReadingsTell → BasesMakeSystems → (o : Opened) → IsOpened k s o → ((u : Substitution) (c : Choice) → IsSortedCovering k s o.reading o.bases u c → IsCoveredToCome k s o u) → (u : Substitution) → IsAdmittedBy k s u → IsCoveredToCome k s o u
   covers_admitted cover tell make o opened all u h =
       let told = tell k.declarations k.table s opened.leaf.closed o.reading opened.reading in
       let systems = make k.declarations k.table (class_of s) o.reading opened.reading o.bases opened.bases in
-      let c = cover k.declarations is.good (problem_of k.given) is.is_given.kinds k.table is.well_made is.table_of s opened.leaf told (systems_of o.reading o.bases) systems u h.0 h.1 in
-      all u c.0 c.1
+      let c = cover k.declarations is.good (problem_of k.given) is.is_given.kinds k.table is.well_made is.table_of s opened.leaf told (systems_of o.reading o.bases) systems u h.0.unifies h.1 in
+      all u c.0 record { covering = c.1; bounds = λ e. c.2 (h.0.keeps_sorts e) }

@@ -1,18 +1,17 @@
 -- What the states of a tree admit when a question is asked, and when the last state is taken out.
-use Rattle.std.proofs.Common.{◌≡◌, ◌<◌, List, [], ◌∷◌, ◌++◌, length, refl, sym, ap, ◌∙◌, subst, inl, inr, arith, Contains, Option, Some, None}
+use Rattle.std.proofs.Common.{◌≡◌, ℕ, ◌<◌, List, [], ◌∷◌, ◌++◌, length, refl, sym, ap, ◌∙◌, subst, inl, inr, arith, Contains, Option, Some, None}
 use Rattle.std.specs.Prelude.{◌⊎◌, ◌↔◌, MatchOption, IfSome}
 use Rattle.std.proofs.lemmas.List.{length_push, get_or_append_left}
 use Rattle.std.proofs.lemmas.List.Elements.{All-contains, Contains-push, Contains-append_cases, Contains-append_left, Contains-append_right}
 use Rattle.fvn_base.proofs.Membership.{contains_here, contains_cases, contains_none}
 use Rattle.fvn_terms.specs.Substitution.{Substitution}
 use Rattle.fvn_flat.specs.Solving.{problem_of}
-use Rattle.fvn_flat.specs.SolvedLists.{IsKindUnifier}
 use Rattle.fvn_combine_nodes.specs.Laws.{UnifiersPartition}
 use Rattle.fvn_combine_nodes.specs.States.{Admits, IsClosed}
-use Rattle.fvn_combine_nodes.specs.Trees.{AreClosed, IsAsked, weight}
+use Rattle.fvn_combine_nodes.specs.Trees.{AreClosed, IsAsked, IsTakenOn, weight}
 use Rattle.fvn_combine_nodes.specs.Unifiers.{kernel}
 use Rattle.fvn_combine_nodes.specs.declared.state.State.{State}
-use Rattle.fvn_combine.specs.Tasks.{Combining, IsCombining}
+use Rattle.fvn_combine.specs.Tasks.{Combining, IsCombining, IsWanted}
 use Rattle.fvn_combine.specs.Leaves.{IsOpened, IsCoveredToCome}
 use Rattle.fvn_combine.specs.Search.{IsAdmitted, IsCoveredAt, IsOpenedAt}
 use Rattle.fvn_combine.specs.declared.opened.Opened.{Opened}
@@ -61,8 +60,8 @@ module _ (k : Combining) (u : Substitution) where
   admitted_last below s p = admitted_right below (s ∷ []) (admitted_by (s ∷ []) s (contains_here s []) p)
 
 module _ (k : Combining) (is : IsCombining k) (partitions : UnifiersPartition) where
-  pub after_asking : (before after : List State) → IsAsked k.declarations k.table before after → (u : Substitution) → IsKindUnifier k.declarations (problem_of k.given) u → IsAdmitted k before u ↔ (IsAdmitted k after u ⊎ IsCoveredAt k None u)
-  after_asking before after a u unifies = (
+  pub after_asking : (before after : List State) → IsAsked k.declarations k.table before after → (u : Substitution) → IsWanted k u → IsAdmitted k before u ↔ (IsAdmitted k after u ⊎ IsCoveredAt k None u)
+  after_asking before after a u wanted = (
     λ h. inl (subst (λ l. IsAdmitted k l u) (sym a.is) (forth (admitted_cases k u a.below (a.top ∷ []) (subst (λ l. IsAdmitted k l u) a.was h)))),
     λ h. elim h [
       | inl m ↦ subst (λ l. IsAdmitted k l u) (sym a.was) (back (admitted_cases k u a.below a.answers (subst (λ l. IsAdmitted k l u) a.is m)))
@@ -73,12 +72,39 @@ module _ (k : Combining) (is : IsCombining k) (partitions : UnifiersPartition) w
       forth : IsAdmitted k a.below u ⊎ IsAdmitted k (a.top ∷ []) u → IsAdmitted k (a.below ++ a.answers) u
       forth (inl b) = admitted_left k u a.below a.answers b
       forth (inr t) =
-          let p = (partitions k.declarations is.good.fits (problem_of k.given) is.is_given.kinds k.table is.well_made is.table_of u unifies).partition in
+          let p = (partitions k.declarations is.good.fits (problem_of k.given) is.is_given.kinds k.table is.well_made is.table_of u wanted.unifies).partition in
           admitted_right k u a.below a.answers (a.all (kernel k.declarations u k.table.nodes) p (admitted_one k u a.top t))
 
       back : IsAdmitted k a.below u ⊎ IsAdmitted k a.answers u → IsAdmitted k (a.below ++ a.top ∷ []) u
       back (inl b) = admitted_left k u a.below (a.top ∷ []) b
       back (inr w) = admitted_last k u a.below a.top (a.kept (kernel k.declarations u k.table.nodes) w)
+
+  -- what holds of the classes of each unifier is taken on
+  pub after_taking_on : (before after : List State) (Holds : (ℕ → ℕ) → Type 0) → IsTakenOn k.declarations k.table Holds before after → (below : List State) (last : State) → before ≡ below ++ last ∷ []
+      → ((u : Substitution) → IsAdmittedBy k last u → Holds (kernel k.declarations u k.table.nodes))
+      → (u : Substitution) → IsWanted k u → IsAdmitted k before u ↔ (IsAdmitted k after u ⊎ IsCoveredAt k None u)
+  after_taking_on before after Holds m below last is_last holds u wanted = (
+    λ h. inl (subst (λ l. IsAdmitted k l u) (sym m.is) (forth (admitted_cases k u m.below (m.top ∷ []) (subst (λ l. IsAdmitted k l u) m.was h)))),
+    λ h. elim h [
+      | inl n ↦ subst (λ l. IsAdmitted k l u) (sym m.was) (back (admitted_cases k u m.below m.left (subst (λ l. IsAdmitted k l u) m.is n)))
+      | inr n ↦ absurd n
+    ],
+  )
+    where
+      top_is : m.top ≡ last
+      top_is = (last_injective m.below below m.top last (sym m.was ∙ is_last)).1
+
+      forth : IsAdmitted k m.below u ⊎ IsAdmitted k (m.top ∷ []) u → IsAdmitted k (m.below ++ m.left) u
+      forth (inl b) = admitted_left k u m.below m.left b
+      forth (inr t) =
+          let p = (partitions k.declarations is.good.fits (problem_of k.given) is.is_given.kinds k.table is.well_made is.table_of u wanted.unifies).partition in
+          let a = admitted_one k u m.top t in
+          let fact = holds u (wanted, subst (λ x. Admits x (kernel k.declarations u k.table.nodes)) top_is a) in
+          admitted_right k u m.below m.left (m.all (kernel k.declarations u k.table.nodes) p a fact)
+
+      back : IsAdmitted k m.below u ⊎ IsAdmitted k m.left u → IsAdmitted k (m.below ++ m.top ∷ []) u
+      back (inl b) = admitted_left k u m.below (m.top ∷ []) b
+      back (inr w) = admitted_last k u m.below m.top (m.kept (kernel k.declarations u k.table.nodes) w)
 
 -- states before the last are closed
 pub closed_before : (k : Combining) (before after : List State) (s : State) → before ≡ after ++ s ∷ [] → AreClosed k.declarations k.table before → AreClosed k.declarations k.table after
@@ -105,11 +131,11 @@ module _ (k : Combining) (before after : List State) (looked : Looked) (l : IsLo
   taken_falls (Some s) h f = f
 
 -- the last state admits no unifier, and is passed over
-pub after_passing : (k : Combining) (before after : List State) (l : IsLookedAtLast k before Passed) → before ≡ after ++ l.last ∷ [] → (u : Substitution) → IsKindUnifier k.declarations (problem_of k.given) u → IsAdmitted k before u ↔ (IsAdmitted k after u ⊎ IsCoveredAt k None u)
-after_passing k before after l e u unifies = (
+pub after_passing : (k : Combining) (before after : List State) (l : IsLookedAtLast k before Passed) → before ≡ after ++ l.last ∷ [] → (u : Substitution) → IsWanted k u → IsAdmitted k before u ↔ (IsAdmitted k after u ⊎ IsCoveredAt k None u)
+after_passing k before after l e u wanted = (
   λ h. elim (admitted_cases k u after (l.last ∷ []) (subst (λ x. IsAdmitted k x u) e h)) [
     | inl b ↦ inl b
-    | inr t ↦ absurd (l.looked u (unifies, admitted_one k u l.last t))
+    | inr t ↦ absurd (l.looked u (wanted, admitted_one k u l.last t))
   ],
   λ h. elim h [
     | inl b ↦ subst (λ x. IsAdmitted k x u) (sym e) (admitted_left k u after (l.last ∷ []) b)
@@ -125,8 +151,8 @@ module _ (k : Combining) (before after : List State) (o : Opened) (l : IsLookedA
   leaf_opened = subst (λ x. IsOpened k x o) same l.looked.0
 
   -- the last state is a leaf, which is opened
-  pub after_opening : (u : Substitution) → IsKindUnifier k.declarations (problem_of k.given) u → IsAdmitted k before u ↔ (IsAdmitted k after u ⊎ IsCoveredAt k (Some (record { state = s; opened = o })) u)
-  after_opening u unifies = (
+  pub after_opening : (u : Substitution) → IsWanted k u → IsAdmitted k before u ↔ (IsAdmitted k after u ⊎ IsCoveredAt k (Some (record { state = s; opened = o })) u)
+  after_opening u wanted = (
     λ h. elim (admitted_cases k u after (s ∷ []) (subst (λ x. IsAdmitted k x u) e h)) [
       | inl b ↦ inl b
       | inr t ↦ inr (at_leaf (admitted_one k u s t))
@@ -138,4 +164,4 @@ module _ (k : Combining) (before after : List State) (o : Opened) (l : IsLookedA
   )
     where
       at_leaf : Admits s (kernel k.declarations u k.table.nodes) → Admits s (kernel k.declarations u k.table.nodes) × IsCoveredToCome k s o u
-      at_leaf a = (a, subst (λ x. IsAdmittedBy k x u → IsCoveredToCome k x o u) same (l.looked.1 u) (unifies, a))
+      at_leaf a = (a, subst (λ x. IsAdmittedBy k x u → IsCoveredToCome k x o u) same (l.looked.1 u) (wanted, a))

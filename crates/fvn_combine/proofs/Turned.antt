@@ -9,23 +9,21 @@ use Rattle.fvn_terms.specs.Substitution.{Substitution}
 use Rattle.fvn_flat.specs.Solving.{problem_of}
 use Rattle.fvn_combine_nodes.specs.States.{class_of}
 use Rattle.fvn_combine_nodes.specs.declared.state.State.{State}
-use Rattle.fvn_combine_choices.specs.Choosing.{Choice}
 use Rattle.fvn_acunify_product.specs.Tags.{Tagging, PendingTags, tags_left}
 use Rattle.fvn_acunify_product.specs.Wheels.{Odometer, IsChoice, PendingChoices, choices_left}
-use Rattle.fvn_combine_admissible.specs.Listed.{tag_in, systems_of, choice_of}
-use Rattle.fvn_combine_complete.specs.CoveringChoices.{IsCovering}
-use Rattle.fvn_combine_candidates.specs.Laws.{ListedChoicesArePossible}
+use Rattle.fvn_combine_admissible.specs.Listed.{tag_in, choice_of}
+use Rattle.fvn_combine_candidates.specs.Laws.{ListedChoicesArePossible, SortedChoicesAreWithin}
 use Rattle.fvn_combine_candidates.specs.Tags.{AreTags}
-use Rattle.fvn_combine_candidates.specs.Turning.{AreWheels}
+use Rattle.fvn_combine_candidates.specs.Turning.{AreWheels, HaveBounds}
 use Rattle.fvn_combine.specs.Tasks.{Combining, IsCombining}
-use Rattle.fvn_combine.specs.Leaves.{IsTurning, IsCoveredLater, IsCoveredToCome, IsOpened}
+use Rattle.fvn_combine.specs.Leaves.{IsSortedCovering, IsTurning, IsCoveredLater, IsCoveredToCome, IsOpened}
 use Rattle.fvn_combine.specs.declared.opened.Turning.{Turning}
 use Rattle.fvn_combine.specs.declared.opened.Opened.{Opened}
 use Rattle.fvn_combine.specs.Work.{most_numbers, numbers_left}
 use Rattle.fvn_combine.specs.inner.Found.{IsTurned}
 use Rattle.fvn_combine.proofs.Less.{falls-le}
 
-module _ (k : Combining) (is : IsCombining k) (possible : ListedChoicesArePossible) (s : State) (o : Opened) (opened : IsOpened k s o) (tags : List (Option OpId)) (options : List ℕ) (are : AreTags o.shared options tags) (wheels : Odometer) (asked : AreWheels k.declarations k.table (class_of s) (tag_in tags) o.reading.sums o.bases wheels.wheels) (all : (numbers : List ℕ) → AllZip IsChoice wheels.wheels numbers → PendingChoices wheels numbers) (after : Tagging) (counts : after.counts ≡ o.tags.counts) (now : o.tags.current ≡ Some options) (taken : (n : List ℕ) → PendingTags o.tags n ↔ ((o.tags.current ≡ Some n) ⊎ PendingTags after n)) (falls : tags_left after < tags_left o.tags) (no_more : choices_left wheels ≤ most_numbers k) where
+module _ (k : Combining) (is : IsCombining k) (possible : ListedChoicesArePossible) (within : SortedChoicesAreWithin) (s : State) (o : Opened) (opened : IsOpened k s o) (tags : List (Option OpId)) (options : List ℕ) (are : AreTags o.shared options tags) (wheels : Odometer) (asked : AreWheels k.declarations k.table (class_of s) (tag_in tags) o.reading.sums o.bases wheels.wheels) (bounds : HaveBounds k.declarations k.table (class_of s) k.sorted o.reading.sums wheels.wheels) (all : (numbers : List ℕ) → AllZip IsChoice wheels.wheels numbers → PendingChoices wheels numbers) (after : Tagging) (counts : after.counts ≡ o.tags.counts) (now : o.tags.current ≡ Some options) (taken : (n : List ℕ) → PendingTags o.tags n ↔ ((o.tags.current ≡ Some n) ⊎ PendingTags after n)) (falls : tags_left after < tags_left o.tags) (no_more : choices_left wheels ≤ most_numbers k) where
   abbrev current : Turning
   current = record { tags = tags; wheels = wheels }
 
@@ -54,7 +52,8 @@ module _ (k : Combining) (is : IsCombining k) (possible : ListedChoicesArePossib
   to_come u h = elim ((taken h.options).0 h.pending) [
     | inl e ↦
         let covered = h.covered tags (subst (λ n. AreTags o.shared n tags) (Some-injective (sym now ∙ e)) are) in
-        let valid = (possible k.declarations is.good.fits (problem_of k.given) is.is_given.kinds k.table is.well_made is.table_of (class_of s) o.reading opened.reading o.bases opened.bases o.shared opened.shared options tags are wheels.wheels asked h.numbers h.as_many).0 (covered.possible, covered.full) in
+        let inside = within k.declarations k.table (class_of s) o.reading opened.reading o.bases opened.bases tags wheels.wheels asked k.sorted bounds h.numbers h.as_many covered.bounds in
+        let valid = (possible k.declarations is.good.fits (problem_of k.given) is.is_given.kinds k.table is.well_made is.table_of (class_of s) o.reading opened.reading o.bases opened.bases k.sorted o.shared opened.shared options tags are wheels.wheels asked h.numbers h.as_many).0 (covered.covering.possible, covered.covering.full, inside) in
         inl (record { numbers = h.numbers; pending = all h.numbers valid.0; covered = covered })
     | inr p ↦ inr (record {
       options = h.options;
@@ -71,7 +70,7 @@ module _ (k : Combining) (is : IsCombining k) (possible : ListedChoicesArePossib
     pending = (taken options).1 (inl now);
     numbers = h.numbers;
     as_many = AllZip-long IsChoice wheels.wheels h.numbers h.pending.0 ∙ asked.as_many;
-    covered = λ others a. subst (λ (c : Choice). IsCovering k.declarations (problem_of k.given) k.table s (systems_of o.reading o.bases) u c) (sym (same_choice others h.numbers a)) h.covered;
+    covered = λ others a. subst (IsSortedCovering k s o.reading o.bases u) (sym (same_choice others h.numbers a)) h.covered;
   }
   was_to_come u (inr h) = record {
     options = h.options;

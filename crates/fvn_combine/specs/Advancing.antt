@@ -1,17 +1,16 @@
 -- What each unifier that is given promises of those that were to come, and what an end says.
-use Rattle.std.specs.Prelude.{◌≡◌, ◌⊎◌, ◌↔◌, ℕ, Option, Some, None, Result, Ok, Err}
+use Rattle.std.specs.Prelude.{◌≡◌, ◌⊎◌, ◌↔◌, ℕ, List, [], ◌∷◌, Option, Some, None, Result, Ok, Err}
 use Rattle.fvn_terms.specs.declared.declarations.Declarations.{Declarations}
 use Rattle.fvn_terms.specs.Substitution.{Substitution}
 use Rattle.fvn_flat.specs.Bindings.{Bindings, value}
 use Rattle.fvn_flat.specs.Problems.{variables_of}
 use Rattle.fvn_flat.specs.Solving.{problem_of, IsBasisCause, IsTooLarge}
-use Rattle.fvn_flat.specs.SolvedLists.{IsKindUnifier}
 use Rattle.fvn_flat.specs.declared.solver.Pairs.{Pairs}
 use Rattle.fvn_combine_choices.specs.Covering.{CoversOnKinds}
 use Rattle.fvn_combine_drawing.specs.OnKinds.{IsGivenOnKinds}
-use Rattle.fvn_combine.specs.Tasks.{Combining}
+use Rattle.fvn_combine.specs.Tasks.{Combining, IsWanted}
 use Rattle.fvn_combine.specs.Endings.{told_of}
-use Rattle.fvn_combine.specs.Search.{Search, Pending, IsEnd}
+use Rattle.fvn_combine.specs.Search.{Search, Pending, IsEnd, IsRefusedAtLast}
 use Rattle.fvn_combine.specs.declared.ending.Ended.{Ended}
 use Rattle.fvn_combine.specs.declared.ending.Ended.TheVariants.{Basis as OfBasis, Size as OfSize}
 use Rattle.fvn_combine.specs.declared.ending.CombineEnd.{CombineEnd}
@@ -25,9 +24,9 @@ pub record IsOf (d : Declarations) (given : Pairs) (first size : ℕ) (m : Searc
   pub limit : m.combining.size ≡ size
   pub running : m.ended ≡ None
 
--- u is a unifier on kinds that is still to come
+-- u is a unifier that is asked for, and still to come
 abbrev pub IsToCome : Search → Substitution → Type 0
-IsToCome m u = IsKindUnifier m.combining.declarations (problem_of m.combining.given) u × Pending m u
+IsToCome m u = IsWanted m.combining u × Pending m u
 
 -- g covers u, with its least sorts
 abbrev pub IsCovered : Combining → Bindings → Substitution → Type 0
@@ -39,7 +38,7 @@ module _ (before after : Search) where
     pub ended : after.ended ≡ Some e
     pub kept : (u : Substitution) → IsToCome before u ↔ IsToCome after u
 
-  -- the same unifiers on kinds are to come
+  -- the same unifiers are to come
   abbrev pub IsToComeAsBefore : Type 0
   IsToComeAsBefore = (u : Substitution) → IsToCome before u ↔ IsToCome after u
 
@@ -49,18 +48,20 @@ module _ (before after : Search) where
     pub covers : (u : Substitution) → IsToCome before u → IsCovered before.combining g u ⊎ IsToCome after u
     pub running : after.ended ≡ None
 
-  -- no unifier on kinds was to come, and none is
+  -- no unifier was to come, and none is
   pub record IsOver : Type 0 where
     pub none : (u : Substitution) → IsToCome before u → ⊥
     pub none_after : (u : Substitution) → IsToCome after u → ⊥
     pub running : after.ended ≡ None
 
   -- what an answer of a search that has not ended says: a unifier, the end of all, a cause that holds and is kept, or want of memory,
-  -- at which the same are to come and nothing has ended
+  -- at which the same are to come and nothing has ended; a sum system is the cause only where no question is open
   abbrev pub IsAdvanced : Result (Option Bindings) CombineEnd → Type 0
   IsAdvanced (Ok (Some g)) = IsGivenNext g
   IsAdvanced (Ok None) = IsOver
-  IsAdvanced (Err (Basis f system)) = IsBasisCause before.combining.declarations before.combining.given f system × IsEndedBy (OfBasis f system)
+  IsAdvanced (Err (Basis f system)) =
+      IsBasisCause before.combining.declarations before.combining.given f system × IsRefusedAtLast before.combining after.states f system
+      × IsEndedBy (OfBasis f system)
   IsAdvanced (Err (Size list)) = IsTooLarge before.combining.declarations before.combining.given before.combining.size list.bindings × IsEndedBy (OfSize list)
   IsAdvanced (Err NoMemory) = (after.ended ≡ before.ended) × IsToComeAsBefore
 
@@ -68,3 +69,8 @@ module _ (before after : Search) where
 abbrev pub IsAgain : Combining → Ended → Result (Option Bindings) CombineEnd → Type 0
 IsAgain k e (Ok o) = ⊥
 IsAgain k e (Err end) = IsEnd k e × ((end ≡ told_of e) ⊎ (end ≡ NoMemory))
+
+-- from one search to another these were given, one after another; the last one stands first
+abbrev pub AreGiven : Search → List Bindings → Search → Type 0
+AreGiven start [] now = now ≡ start
+AreGiven start (g ∷ earlier) now = (before : Search) × AreGiven start earlier before × IsGivenNext before now g

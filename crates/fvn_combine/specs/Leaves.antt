@@ -1,5 +1,5 @@
 -- A leaf that is open, and its choices that are still to come.
-use Rattle.std.specs.Prelude.{◌≡◌, ◌⊎◌, ℕ, List, length, Option, Some, None}
+use Rattle.std.specs.Prelude.{◌≡◌, ◌⊎◌, ℕ, true, List, length, Option, Some, None}
 use Rattle.fvn_terms.specs.declared.plain.OpId.{OpId}
 use Rattle.fvn_terms.specs.Substitution.{Substitution}
 use Rattle.fvn_lindio.specs.declared.system.Solution.{Solution}
@@ -11,8 +11,10 @@ use Rattle.fvn_combine_leaves.specs.Readings.{IsReading}
 use Rattle.fvn_combine_leaves.specs.declared.reading.Reading.{Reading}
 use Rattle.fvn_acunify_product.specs.Tags.{PendingTags}
 use Rattle.fvn_acunify_product.specs.Wheels.{PendingChoices}
+use Rattle.fvn_combine_choices.specs.Choosing.{Choice}
 use Rattle.fvn_combine_admissible.specs.Listed.{tag_in, systems_of, choice_of}
 use Rattle.fvn_combine_complete.specs.CoveringChoices.{IsCovering}
+use Rattle.fvn_combine_bounds.specs.Narrow.{KeepsBounds}
 use Rattle.fvn_combine_leaves.specs.Bases.{AreBases}
 use Rattle.fvn_combine_candidates.specs.Sharing.{AreSharedClasses}
 use Rattle.fvn_combine_candidates.specs.Tags.{tag_counts, AreTags}
@@ -31,9 +33,14 @@ module _ (k : Combining) (s : State) where
       pub are_tags : AreTags shared options v.tags
       pub are_wheels : AreWheels k.declarations k.table (class_of s) (tag_in v.tags) r.sums bases v.wheels.wheels
 
-    -- the choice of these tags and numbers covers u
+    -- the choice covers u, and keeps to what sorts ask where they are heeded
+    pub record IsSortedCovering (u : Substitution) (c : Choice) : Type 0 where
+      pub covering : IsCovering k.declarations (problem_of k.given) k.table s (systems_of r bases) u c
+      pub bounds : k.sorted ≡ true → KeepsBounds k.declarations k.table (class_of s) (systems_of r bases) c
+
+    -- the choice of these tags and numbers does so
     abbrev pub IsCoveredBy : List (Option OpId) → List ℕ → Substitution → Type 0
-    IsCoveredBy tags numbers u = IsCovering k.declarations (problem_of k.given) k.table s (systems_of r bases) u (choice_of r tags numbers)
+    IsCoveredBy tags numbers u = IsSortedCovering u (choice_of r tags numbers)
 
     -- numbers that are still to come under the current tags cover u
     pub record IsCoveredUnder (v : Turning) (u : Substitution) : Type 0 where
@@ -68,6 +75,6 @@ module _ (k : Combining) (s : State) where
     pub leaf : IsLeaf k.declarations k.table s
     pub reading : IsReading k.declarations k.table (class_of s) o.reading
     pub bases : AreBases o.reading.sums o.bases
-    pub shared : AreSharedClasses k.declarations k.table (class_of s) o.shared
+    pub shared : AreSharedClasses k.declarations k.table (class_of s) k.sorted o.shared
     pub counts : o.tags.counts ≡ tag_counts o.shared
     pub turning : (v : Turning) → o.turning ≡ Some v → IsTurning o.reading o.bases o.shared v

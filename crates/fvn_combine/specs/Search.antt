@@ -1,11 +1,15 @@
 -- The search for all unifiers on kinds, and what is still to come of them.
-use Rattle.std.specs.Prelude.{◌≡◌, ◌⊎◌, List, Option, Some, None, Any}
+use Rattle.std.specs.Prelude.{◌≡◌, ◌⊎◌, ℕ, List, [], ◌∷◌, ◌++◌, Option, Some, None, Any}
+use Rattle.fvn_terms.specs.declared.plain.OpId.{OpId}
 use Rattle.fvn_terms.specs.Substitution.{Substitution}
-use Rattle.fvn_flat.specs.Solving.{IsBasisCause, IsTooLarge}
-use Rattle.fvn_combine_nodes.specs.States.{Admits}
+use Rattle.fvn_lindio.specs.declared.system.System.{System}
+use Rattle.fvn_flat.specs.Solving.{IsBasisCause, IsRefused, IsTooLarge}
+use Rattle.fvn_combine_nodes.specs.States.{Admits, class_of}
 use Rattle.fvn_combine_nodes.specs.Trees.{AreClosed}
 use Rattle.fvn_combine_nodes.specs.Unifiers.{kernel}
 use Rattle.fvn_combine_nodes.specs.declared.state.State.{State}
+use Rattle.fvn_combine_systems.specs.NodeSystems.{IsNodeSystem}
+use Rattle.fvn_combine_leaves.specs.Leaves.{IsLeaf}
 use Rattle.fvn_combine.specs.Tasks.{Combining, IsCombining}
 use Rattle.fvn_combine.specs.Leaves.{IsOpened, IsCoveredToCome}
 use Rattle.fvn_combine.specs.declared.opened.Leaf.{Leaf}
@@ -23,6 +27,25 @@ pub record Search : Type 0 where
 abbrev pub IsEnd : Combining → Ended → Type 0
 IsEnd k (Basis f system) = IsBasisCause k.declarations k.given f system
 IsEnd k (Size list) = IsTooLarge k.declarations k.given k.size list.bindings
+
+-- no question is open in the state, and the system, which is f's sum system under its classes, is refused
+pub record IsRefusedAt (k : Combining) (s : State) (f : OpId) (system : System) : Type 0 where
+  pub leaf : IsLeaf k.declarations k.table s
+  pub columns : List ℕ
+  pub is_system : IsNodeSystem k.table (class_of s) f columns system
+  pub refused : IsRefused system
+
+-- so it is in the last of the states
+pub record IsRefusedAtLast (k : Combining) (states : List State) (f : OpId) (system : System) : Type 0 where
+  pub below : List State
+  pub last : State
+  pub is : states ≡ below ++ last ∷ []
+  pub refused : IsRefusedAt k last f system
+
+-- where a sum system is refused, no question is open in the state at which the search ends
+abbrev pub HasNoQuestion : Combining → List State → Ended → Type 0
+HasNoQuestion k states (Basis f system) = IsRefusedAtLast k states f system
+HasNoQuestion k states (Size list) = Unit {0}
 
 -- the leaf is open, if there is one
 abbrev pub IsOpenedAt : Combining → Option Leaf → Type 0

@@ -1,20 +1,26 @@
 -- What a combination of solvers is asked: a problem, its table of nodes, the first new number, and the most symbols.
-use Rattle.std.specs.Prelude.{ℕ, ◌<◌, ◌-◌, ◌^◌, ◌≤◌, List}
+use Rattle.std.specs.Prelude.{◌≡◌, ℕ, ◌<◌, ◌-◌, ◌^◌, ◌≤◌, Bool, true, List}
 use Rattle.fvn_base.specs.declared.limits.TheConstants.{TERM_SYMBOLS}
 use Rattle.fvn_terms.specs.declared.plain.Var.{Var}
 use Rattle.fvn_terms.specs.declared.declarations.Declarations.{Declarations}
+use Rattle.fvn_terms.specs.Substitution.{Substitution}
 use Rattle.fvn_forms.specs.Good.{IsGood}
+use Rattle.fvn_flat.specs.Problems.{variables_of}
 use Rattle.fvn_flat.specs.Solving.{IsGiven, problem_of, symbols_of_pairs}
+use Rattle.fvn_flat.specs.SolvedLists.{IsKindUnifier}
 use Rattle.fvn_flat.specs.declared.solver.Pairs.{Pairs}
 use Rattle.fvn_combine_nodes.specs.Table.{NodeTable, IsWellMade, IsTableOf}
+use Rattle.fvn_combine_bounds.specs.Narrow.{KeepsSorts}
 use Rattle.fvn_combine_triangular.specs.Ready.{AreVariablesOf}
 
--- the problem in its signature, with its table, the variables of this, the first number of a new variable, and the most symbols of a value
+-- the problem in its signature, with its table, the variables of this, the first number of a new variable, the most symbols of a value,
+-- and whether the sorts of the problem's variables are heeded
 pub record Combining : Type 0 where
   pub declarations : Declarations
   pub given : Pairs
   pub first : ℕ
   pub size : ℕ
+  pub sorted : Bool
   pub table : NodeTable
   pub variables : List Var
 
@@ -27,3 +33,8 @@ pub record IsCombining (k : Combining) : Type 0 where
   pub table_of : IsTableOf k.declarations (problem_of k.given) k.table
   pub variables_of : AreVariablesOf k.table k.variables
   pub limit : k.size < 2 ^ 64 - 1
+
+-- u is a unifier that is asked for: one on kinds, and where sorts are heeded one that gives the problem's variables terms of their sorts
+pub record IsWanted (k : Combining) (u : Substitution) : Type 0 where
+  pub unifies : IsKindUnifier k.declarations (problem_of k.given) u
+  pub keeps_sorts : k.sorted ≡ true → KeepsSorts k.declarations (variables_of (problem_of k.given)) u

@@ -1,9 +1,11 @@
 //! The unifiers of a problem on kinds, one after another.
-ghost use Rattle.std.specs.Prelude.{◌≡◌, ◌≤◌, ◌<◌, ◌-◌, ◌^◌, Some, None, IfOk, IfSome};
+ghost use Rattle.std.specs.Prelude.{◌≡◌, ◌≤◌, ◌<◌, ◌-◌, ◌^◌, true, Some, None, IfOk, IfSome};
 ghost use Rattle.fvn_base.specs.declared.limits.TheConstants.{TERM_SYMBOLS};
 ghost use Rattle.fvn_terms.specs.Substitution.{Substitution};
+ghost use Rattle.fvn_flat.specs.Problems.{variables_of};
 ghost use Rattle.fvn_flat.specs.Solving.{IsGiven, problem_of, symbols_of_pairs};
 ghost use Rattle.fvn_flat.specs.SolvedLists.{IsKindUnifier};
+ghost use Rattle.fvn_combine_bounds.specs.Narrow.{KeepsSorts};
 ghost use Rattle.fvn_combine.specs.Advancing.{IsOf, IsToCome, IsAdvanced, IsAgain};
 ghost use Rattle.fvn_combine.specs.Search.{IsSearch};
 ghost use Rattle.fvn_combine.specs.Work.{work_left};
@@ -118,8 +120,52 @@ impl<'a> Combiner<'a> {
         ensures all { IfOk result (λ m. (u : Substitution) →
             IsKindUnifier sig.now (problem_of problem.now) u → IsToCome m u) }
     {
+        let combiner = Combiner::begun(alloc, sig, problem, first_fresh, size, false)?;
+        Ok(combiner)
+    }
+
+    /// The same, but of unifiers that give the problem's variables terms of their sorts.
+    ///
+    /// Choices of which the sorts say that they cover none of these are left out. What is given is a unifier on
+    /// kinds all the same.
+    pub fn for_sorts(
+        alloc: Global,
+        sig: &'a Signature,
+        problem: &'a Pairs,
+        first_fresh: u32,
+        size: u64,
+    ) -> Result<Combiner<'a>, NoMemory>
+        requires given { IsGiven sig.now problem.now first_fresh }
+        requires small { symbols_of_pairs problem.now.pairs ≤ TERM_SYMBOLS }
+        requires size { size < 2 ^ 64 - 1 }
+        ensures of { IfOk result (IsOf sig.now problem.now first_fresh size) }
+        // Every unifier on kinds that keeps the sorts of the problem's variables is to come.
+        ensures all { IfOk result (λ m. (u : Substitution) →
+            IsKindUnifier sig.now (problem_of problem.now) u
+            → KeepsSorts sig.now (variables_of (problem_of problem.now)) u → IsToCome m u) }
+    {
+        let combiner = Combiner::begun(alloc, sig, problem, first_fresh, size, true)?;
+        Ok(combiner)
+    }
+
+    // All unifiers on kinds, where sorts are heeded those that keep the sorts of the problem's variables.
+    fn begun(
+        alloc: Global,
+        sig: &'a Signature,
+        problem: &'a Pairs,
+        first_fresh: u32,
+        size: u64,
+        sorted: bool,
+    ) -> Result<Combiner<'a>, NoMemory>
+        requires given { IsGiven sig.now problem.now first_fresh }
+        requires small { symbols_of_pairs problem.now.pairs ≤ TERM_SYMBOLS }
+        requires size { size < 2 ^ 64 - 1 }
+        ensures of { IfOk result (IsOf sig.now problem.now first_fresh size) }
+        ensures all { IfOk result (λ m. (u : Substitution) → IsKindUnifier sig.now (problem_of problem.now) u
+            → (sorted ≡ true → KeepsSorts sig.now (variables_of (problem_of problem.now)) u) → IsToCome m u) }
+    {
         unifiers_partition();
-        let task = Task::new(alloc, sig, problem, first_fresh, size)?;
+        let task = Task::new(alloc, sig, problem, first_fresh, size, sorted)?;
         task.recall();
         let tree = Tree::new(alloc, task.sig, &task.table)?;
         Ok(Combiner {
@@ -132,7 +178,7 @@ impl<'a> Combiner<'a> {
         })
     }
 
-    /// The next unifier, or none where every unifier on kinds is covered by one that was given.
+    /// The next unifier, or none where every unifier that is asked for is covered by one that was given.
     ///
     /// After an end every later call tells the same end, or want of memory. At want of memory the
     /// same unifiers are to come as before.

@@ -1,21 +1,23 @@
 //! What the top of a decision tree asks for.
-ghost use Rattle.std.specs.Prelude.{IfOk};
+ghost use Rattle.std.specs.Prelude.{◌<◌, length, IfOk};
 ghost use Rattle.fvn_combine_nodes.specs.Trees.{AreClosed};
-ghost use Rattle.fvn_combine_nodes.specs.States.{IsClosed, class_of};
+ghost use Rattle.fvn_combine_nodes.specs.States.{IsClosed, IsOpen, class_of};
 ghost use Rattle.fvn_combine_leaves.specs.Bases.{AreBases};
 ghost use Rattle.fvn_combine_leaves.specs.Leaves.{IsNearLeaf, IsLeaf};
 ghost use Rattle.fvn_combine_leaves.specs.Readings.{IsReading};
 ghost use Rattle.fvn_combine_choices.specs.Plans.{AreOfOneKind};
+ghost use Rattle.fvn_combine_inferring.specs.Inferred.{TellHeads};
 ghost use Rattle.fvn_combine.specs.inner.Found.{IsLooked, IsLookedAt};
 
 use crate::kinds::are_of_one_kind;
 use crate::opened::{Opened, open};
 use crate::task::Task;
 use fvn_base::Seq;
+use fvn_combine_bounds::sorted_leaves_cover;
 use fvn_combine_candidates::{OpenFault, bases, bases_make_systems, refusals_are_causes};
 use fvn_combine_choices::classes_have_one_kind;
-use fvn_combine_complete::{leaves_cover, readings_tell, tables_have_sums, unifiers_go_with};
-use fvn_combine_inferring::{Inferred, infer};
+use fvn_combine_complete::{readings_tell, tables_have_sums, unifiers_go_with};
+use fvn_combine_inferring::{Inferred, differ, heads_of_values, infer};
 use fvn_combine_leaves::{Reading, first_question, question_on_all, question_on_touched, read};
 use fvn_combine_nodes::{State, Tree};
 use fvn_combine_systems::{tables_are_small, tables_hold_arguments};
@@ -29,6 +31,10 @@ pub(crate) enum Looked {
     Over,
     /// The question whether two nodes are in one class.
     Open(usize, usize),
+    /// Two nodes are in one class under all unifiers.
+    Together(usize, usize),
+    /// Two nodes are in different classes under all unifiers.
+    Apart(usize, usize),
     /// To be passed over: it admits no unifier.
     Passed,
     /// To end: the sum system of an operator is refused.
@@ -52,16 +58,40 @@ fn look_at_leaf(
 {
     task.recall();
     bases_make_systems();
-    leaves_cover();
+    sorted_leaves_cover();
     readings_tell();
     let leaf = open(task, state, reading, bases)?;
     Ok(Looked::Leaf(leaf))
 }
 
+// An open question, or that all unifiers say no to it.
+fn asked(task: &Task, state: &State, heads: &[Option<OpId>], i: usize, j: usize) -> Looked
+    requires closed { IsClosed task.now.declarations task.now.table state.now }
+    requires heads { TellHeads task.now.declarations task.now.table state.now heads.now }
+    requires left { i < length task.now.table.nodes }
+    requires right { j < length task.now.table.nodes }
+    requires open { IsOpen state.now i j }
+    ensures { IsLookedAt task.now state.now result }
+{
+    task.recall();
+    tables_have_sums();
+    unifiers_go_with();
+    if differ(task.sig, &task.table, state, heads, i, j) {
+        return Looked::Apart(i, j);
+    }
+    Looked::Open(i, j)
+}
+
 // What is asked for by a state that is nearly a leaf.
-fn look_at_near_leaf(task: &Task, state: &State, reading: Reading) -> Result<Looked, NoMemory>
+fn look_at_near_leaf(
+    task: &Task,
+    state: &State,
+    reading: Reading,
+    heads: &[Option<OpId>],
+) -> Result<Looked, NoMemory>
     requires near { IsNearLeaf task.now.declarations task.now.table state.now }
     requires reading { IsReading task.now.declarations task.now.table (class_of state.now) reading }
+    requires heads { TellHeads task.now.declarations task.now.table state.now heads.now }
     ensures { IfOk result (IsLookedAt task.now state.now) }
 {
     task.recall();
@@ -74,13 +104,13 @@ fn look_at_near_leaf(task: &Task, state: &State, reading: Reading) -> Result<Loo
         Err(OpenFault::NoMemory) => Err(NoMemory),
         Err(OpenFault::Basis(f, system)) => {
             match question_on_all(task.sig, &task.table, state, &reading) {
-                Some(pair) => Ok(Looked::Open(pair.0, pair.1)),
+                Some(pair) => Ok(asked(task, state, heads, pair.0, pair.1)),
                 None => Ok(Looked::Refused(f, system)),
             }
         }
         Ok(bases) => {
             match question_on_touched(task.sig, &task.table, state, &reading, bases.as_slice()) {
-                Some(pair) => Ok(Looked::Open(pair.0, pair.1)),
+                Some(pair) => Ok(asked(task, state, heads, pair.0, pair.1)),
                 None => {
                     let looked = look_at_leaf(task, state, reading, bases)?;
                     Ok(looked)
@@ -91,15 +121,21 @@ fn look_at_near_leaf(task: &Task, state: &State, reading: Reading) -> Result<Loo
 }
 
 // What is asked for by a state of which nothing is inferred.
-fn look_further(task: &Task, state: &State, reading: Reading) -> Result<Looked, NoMemory>
+fn look_further(
+    task: &Task,
+    state: &State,
+    reading: Reading,
+    heads: &[Option<OpId>],
+) -> Result<Looked, NoMemory>
     requires closed { IsClosed task.now.declarations task.now.table state.now }
     requires reading { IsReading task.now.declarations task.now.table (class_of state.now) reading }
+    requires heads { TellHeads task.now.declarations task.now.table state.now heads.now }
     ensures { IfOk result (IsLookedAt task.now state.now) }
 {
     match first_question(task.sig, &task.table, state, &reading) {
-        Some((i, j)) => Ok(Looked::Open(i, j)),
+        Some((i, j)) => Ok(asked(task, state, heads, i, j)),
         None => {
-            let looked = look_at_near_leaf(task, state, reading)?;
+            let looked = look_at_near_leaf(task, state, reading, heads)?;
             Ok(looked)
         }
     }
@@ -116,12 +152,20 @@ fn look_at(task: &Task, state: &State) -> Result<Looked, NoMemory>
     tables_have_sums();
     unifiers_go_with();
     let reading = read(task.alloc, task.sig, &task.table, state)?;
-    match infer(task.alloc, task.sig, &task.table, state, &reading)? {
+    let heads = heads_of_values(task.alloc, task.sig, &task.table, state, &reading)?;
+    match infer(
+        task.alloc,
+        task.sig,
+        &task.table,
+        state,
+        &reading,
+        heads.as_slice(),
+    )? {
         Inferred::Impossible => Ok(Looked::Passed),
-        Inferred::Together(i, j) => Ok(Looked::Open(i, j)),
+        Inferred::Together(i, j) => Ok(Looked::Together(i, j)),
         Inferred::Question(i, j) => Ok(Looked::Open(i, j)),
         Inferred::Nothing => {
-            let looked = look_further(task, state, reading)?;
+            let looked = look_further(task, state, reading, heads.as_slice())?;
             Ok(looked)
         }
     }

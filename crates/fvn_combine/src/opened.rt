@@ -1,16 +1,13 @@
 //! Leaves that are open.
 ghost use Rattle.std.specs.Prelude.{◌*◌, ◌≤◌, IfOk};
 ghost use Rattle.fvn_terms.specs.Substitution.{Substitution};
-ghost use Rattle.fvn_flat.specs.Solving.{problem_of};
 ghost use Rattle.fvn_combine_nodes.specs.States.{class_of};
 ghost use Rattle.fvn_combine_leaves.specs.Leaves.{IsLeaf};
 ghost use Rattle.fvn_combine_leaves.specs.Readings.{IsReading};
 ghost use Rattle.fvn_combine_choices.specs.Choosing.{Choice as InChoice};
-ghost use Rattle.fvn_combine_admissible.specs.Listed.{systems_of};
-ghost use Rattle.fvn_combine_complete.specs.CoveringChoices.{IsCovering};
 ghost use Rattle.fvn_combine_leaves.specs.Bases.{AreBases};
 ghost use Rattle.fvn_combine_triangular.specs.Ready.{IsReady};
-ghost use Rattle.fvn_combine.specs.Leaves.{IsOpened, IsCoveredToCome};
+ghost use Rattle.fvn_combine.specs.Leaves.{IsSortedCovering, IsOpened, IsCoveredToCome};
 ghost use Rattle.fvn_combine.specs.Work.{most_tags, most_numbers, leaf_left};
 
 use crate::task::Task;
@@ -62,15 +59,22 @@ pub(crate) fn open(
     requires bases { AreBases reading.sums bases.items }
     ensures opened { IfOk result (IsOpened task.now state.now) }
     ensures all { IfOk result (λ o. (u : Substitution) (c : InChoice)
-        → IsCovering task.now.declarations (problem_of task.now.given) task.now.table state.now
-        (systems_of o.reading o.bases) u c → IsCoveredToCome task.now state.now o u) }
+        → IsSortedCovering task.now state.now o.reading o.bases u c
+        → IsCoveredToCome task.now state.now o u) }
     ensures few { IfOk result (λ o. leaf_left task.now o ≤ most_tags task.now * most_numbers task.now) }
 {
     task.recall();
     sum_operators_are_few();
     covering_choices_are_listed();
     tables_are_small();
-    let classes = shared(task.alloc, task.sig, &task.table, state, &reading)?;
+    let classes = shared(
+        task.alloc,
+        task.sig,
+        &task.table,
+        state,
+        &reading,
+        task.sorted,
+    )?;
     let counts = option_counts(task.alloc, classes.as_slice())?;
     let tags = Tags::new(task.alloc, counts)?;
     Ok(Opened {

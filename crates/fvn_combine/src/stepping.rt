@@ -37,7 +37,7 @@ pub(crate) enum Found {
     Given(Subst),
 }
 
-// Looks at the last state: asks its question, passes it over, opens it, or says why the search ends.
+// Looks at the last state: asks its question, takes on a fact, passes it over, opens it, or says why the search ends.
 fn take_step(task: &Task, tree: &mut Tree, leaf: &mut Option<Leaf>) -> Result<Step, NoMemory>
     requires closed { AreClosed task.now.declarations task.now.table tree.old }
     ensures closed { AreClosed task.now.declarations task.now.table tree.new }
@@ -50,6 +50,16 @@ fn take_step(task: &Task, tree: &mut Tree, leaf: &mut Option<Leaf>) -> Result<St
         Looked::Over => Ok(Step::Over),
         Looked::Open(i, j) => {
             tree.ask(task.alloc, task.sig, &task.table, i, j)?;
+            *leaf = None;
+            Ok(Step::More)
+        }
+        Looked::Together(i, j) => {
+            tree.meet(task.alloc, task.sig, &task.table, i, j)?;
+            *leaf = None;
+            Ok(Step::More)
+        }
+        Looked::Apart(i, j) => {
+            tree.part(task.alloc, task.sig, &task.table, i, j)?;
             *leaf = None;
             Ok(Step::More)
         }

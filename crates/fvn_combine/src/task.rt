@@ -12,7 +12,7 @@ use fvn_terms::{NoMemory, Var};
 use std::alloc::Global;
 use std::marker::Model;
 
-/// A problem in its signature, with its table, and the limits on its answers.
+/// A problem in its signature, with its table, the limits on its answers, and whether sorts are heeded.
 #[derive(Drop)]
 pub(crate) struct Task<'a> {
     pub(crate) alloc: Global,
@@ -22,6 +22,7 @@ pub(crate) struct Task<'a> {
     pub(crate) variables: Vec<Var>,
     pub(crate) first: u32,
     pub(crate) size: u64,
+    pub(crate) sorted: bool,
 }
 
 impl<'a> Model for Task<'a> {
@@ -38,6 +39,7 @@ impl<'a> Model for Task<'a> {
       given = t.problem.now;
       first = t.first;
       size = t.size;
+      sorted = t.sorted;
       table = t.table;
       variables = t.variables.items;
     } };
@@ -47,6 +49,7 @@ impl<'a> Model for Task<'a> {
       given = t.problem.now;
       first = t.first;
       size = t.size;
+      sorted = t.sorted;
       table = t.table;
       variables = t.variables.items;
     }) };
@@ -60,6 +63,7 @@ impl<'a> Task<'a> {
         problem: &'a Pairs,
         first: u32,
         size: u64,
+        sorted: bool,
     ) -> Result<Task<'a>, NoMemory>
         requires given { IsGiven sig.now problem.now first }
         requires small { symbols_of_pairs problem.now.pairs ≤ TERM_SYMBOLS }
@@ -68,6 +72,7 @@ impl<'a> Task<'a> {
         ensures given { IfOk result (λ t. t.given ≡ problem.now) }
         ensures first { IfOk result (λ t. t.first ≡ first) }
         ensures size { IfOk result (λ t. t.size ≡ size) }
+        ensures sorted { IfOk result (λ t. t.sorted ≡ sorted) }
     {
         sig.recall_good();
         let table = table_of(alloc, sig, problem)?;
@@ -81,6 +86,7 @@ impl<'a> Task<'a> {
             variables,
             first,
             size,
+            sorted,
         })
     }
 

@@ -16,7 +16,8 @@ use crate::opened::{Leaf, Opened, Turning};
 use crate::task::Task;
 use fvn_base::Seq;
 use fvn_combine_candidates::{
-    SharedClass, listed_choices_are_possible, sum_operators_are_few, tags_of, wheels,
+    SharedClass, listed_choices_are_possible, sorted_choices_are_within, sum_operators_are_few,
+    tags_of, wheels,
 };
 use fvn_combine_drawing::{Drawn, draw};
 use fvn_combine_leaves::Reading;
@@ -37,7 +38,7 @@ fn next_of_turning(
     requires ready { IsReady task.now.declarations task.now.given task.now.first task.now.table state.now }
     requires reading { IsReading task.now.declarations task.now.table (class_of state.now) reading.now }
     requires bases { AreBases reading.now.sums bases.now }
-    requires shared { AreSharedClasses task.now.declarations task.now.table (class_of state.now) shared.now }
+    requires shared { AreSharedClasses task.now.declarations task.now.table (class_of state.now) task.now.sorted shared.now }
     requires turning { IsTurning task.now state.now reading.now bases.now shared.now turning.old }
     ensures turning { IsTurning task.now state.now reading.now bases.now shared.now turning.new }
     ensures fewer { (u : Substitution)
@@ -118,6 +119,7 @@ fn turn(task: &Task, state: &State, opened: &mut Opened) -> Result<bool, NoMemor
 {
     task.recall();
     listed_choices_are_possible();
+    sorted_choices_are_within();
     sum_operators_are_few();
     let options = match opened.tags.current() {
         None => return Ok(false),
@@ -137,6 +139,7 @@ fn turn(task: &Task, state: &State, opened: &mut Opened) -> Result<bool, NoMemor
         &opened.reading,
         opened.bases.as_slice(),
         tags.as_slice(),
+        task.sorted,
     )?;
     opened.tags.advance();
     opened.turning = Some(Turning {

@@ -62,8 +62,8 @@ others_some law sorts d problem t s u at f k other e =
     sorts d at.good f x.sort other.none (u x) (is_term law d problem t s u at k x other.has) (at.sorted x (has_sort law d problem t s u at k x other.has))
     (ap (parts d f) (sym (value_is law d problem t s u at k x other.has)) ∙ e)
 
-pub bounds_kept : TakenSolutionsStandForSummands → NarrowClassesHaveOneSummand → OtherClassesHaveSomeSummand → ObeyedChoicesKeepBounds
-bounds_kept taken one some d problem t s u at y c obeying =
+pub bounds_kept : TakenSolutionsStandForSummands → NarrowClassesHaveOneSummand → OtherClassesHaveSomeSummand → NarrowClassesHaveNoTag → ObeyedChoicesKeepBounds
+bounds_kept taken one some none d problem t s u at y c obeying =
     let summands = taken d t (class_of s) y c (value_at d u t.nodes) obeying in
     record {
       once = λ f sum not_neutral k used narrow.
@@ -71,6 +71,7 @@ bounds_kept taken one some d problem t s u at y c obeying =
           let counted = summands.within f sum not_neutral k used in
           omega (arith, few, counted);
       some = λ f sum k used other. summands.some f sum k used (some d problem t s u at f k other);
+      untagged = λ f k shared used narrow. none d problem t s u at c.tag obeying.tags f k shared used narrow;
     }
 
 pub narrow_untagged : UnifiersPartition → NarrowSortsHaveNoSum → NarrowClassesHaveNoTag

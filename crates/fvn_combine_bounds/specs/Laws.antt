@@ -10,17 +10,20 @@ use Rattle.fvn_terms.specs.Unifiers.{Problem}
 use Rattle.fvn_forms.specs.Flat.{FlatTerm}
 use Rattle.fvn_forms.specs.Canon.{parts}
 use Rattle.fvn_forms.specs.Good.{IsGood, IsOfKind}
-use Rattle.fvn_combine_nodes.specs.Table.{NodeTable}
-use Rattle.fvn_combine_nodes.specs.States.{class_of}
-use Rattle.fvn_combine_nodes.specs.Unifiers.{value_at}
+use Rattle.fvn_flat.specs.Problems.{IsProblem, variables_of}
+use Rattle.fvn_flat.specs.SolvedLists.{IsKindUnifier}
+use Rattle.fvn_combine_nodes.specs.Table.{NodeTable, IsWellMade, IsTableOf}
+use Rattle.fvn_combine_nodes.specs.States.{Admits, class_of}
+use Rattle.fvn_combine_nodes.specs.Unifiers.{value_at, kernel}
 use Rattle.fvn_combine_nodes.specs.declared.state.State.{State}
-use Rattle.fvn_combine_leaves.specs.Leaves.{IsSumOperator, Uses, IsShared}
-use Rattle.fvn_combine_choices.specs.Choosing.{Systems, Choice, member_count}
+use Rattle.fvn_combine_leaves.specs.Leaves.{IsLeaf, IsSumOperator, Uses, IsShared}
+use Rattle.fvn_combine_choices.specs.Choosing.{Systems, Choice, AreSystems, member_count}
+use Rattle.fvn_combine_complete.specs.CoveringChoices.{IsCovering}
 use Rattle.fvn_combine_complete.specs.Neutral.{IsNeutral}
 use Rattle.fvn_combine_complete.specs.Obeyed.{AreObeying}
-use Rattle.fvn_combine_complete.specs.Obeying.{ObeyTags}
+use Rattle.fvn_combine_complete.specs.Obeying.{IsTold, ObeyTags}
 use Rattle.fvn_sort_bounds.specs.Admitting.{AdmitsSum}
-use Rattle.fvn_combine_bounds.specs.Narrow.{IsNarrow, IsNeverIdentity, IsSortedAt, KeepsBounds}
+use Rattle.fvn_combine_bounds.specs.Narrow.{IsNarrow, IsNeverIdentity, IsSortedAt, KeepsBounds, KeepsSorts}
 
 -- a choice that values obey takes a class no more often than its value has summands, where the operator is not
 -- neutral; and it takes the class where its value has some summand
@@ -69,3 +72,14 @@ NarrowClassesHaveNoTag =
 abbrev pub NeutralOperatorsAdmitSums : Type 0
 NeutralOperatorsAdmitSums =
     (d : Declarations) → IsGood d → (f : OpId) → IsNeutral d f → (s : SortId) → IsOfKind d f s → AdmitsSum d f s
+
+-- at a leaf that admits its partition, each unifier on kinds is covered by some choice; where it gives the problem's
+-- variables terms of their sorts, by one that keeps to what sorts ask
+abbrev pub SortedLeavesCover : Type 0
+SortedLeavesCover =
+    (d : Declarations) → IsGood d → (problem : Problem) → IsProblem d problem
+    → (t : NodeTable) → IsWellMade t → IsTableOf d problem t
+    → (s : State) → IsLeaf d t s → IsTold d t (class_of s) → (y : Systems) → AreSystems d t (class_of s) y
+    → (u : Substitution) → IsKindUnifier d problem u → Admits s (kernel d u t.nodes)
+    → (c : Choice) × IsCovering d problem t s y u c
+    × (KeepsSorts d (variables_of problem) u → KeepsBounds d t (class_of s) y c)

@@ -1,5 +1,5 @@
 -- Classes whose values, by the sorts of their variables, have few summands, or some.
-use Rattle.std.specs.Prelude.{◌≡◌, ℕ, ◌<◌, ◌≤◌, slice_get, Some, Contains}
+use Rattle.std.specs.Prelude.{◌≡◌, ◌≢◌, ℕ, ◌<◌, ◌≤◌, List, slice_get, Some, Contains}
 use Rattle.fvn_terms.specs.declared.plain.Var.{Var as Variable}
 use Rattle.fvn_terms.specs.declared.plain.OpId.{OpId}
 use Rattle.fvn_terms.specs.declared.declarations.Declarations.{Declarations}
@@ -14,7 +14,7 @@ use Rattle.fvn_combine_nodes.specs.States.{Admits, IsClosed}
 use Rattle.fvn_combine_nodes.specs.Unifiers.{kernel}
 use Rattle.fvn_combine_nodes.specs.declared.state.State.{State}
 use Rattle.fvn_combine_nodes.specs.declared.table.Node.TheVariants.{Var}
-use Rattle.fvn_combine_leaves.specs.Leaves.{IsSumOperator, Uses}
+use Rattle.fvn_combine_leaves.specs.Leaves.{IsSumOperator, Uses, IsShared}
 use Rattle.fvn_combine_choices.specs.Choosing.{Systems, Choice, member_count}
 use Rattle.fvn_combine_complete.specs.Neutral.{IsNeutral}
 use Rattle.fvn_sort_bounds.specs.Admitting.{AdmitsSum, AdmitsIdentity}
@@ -39,12 +39,18 @@ module _ (d : Declarations) (t : NodeTable) (class : ℕ → ℕ) (f : OpId) whe
     pub none : AdmitsIdentity d f variable.sort → ⊥
 
 -- what sorts ask of a choice: it takes a narrow class once at most, where the operator is not neutral, and a class
--- that is never the identity at least once
+-- that is never the identity at least once; and it binds no class to a sum by an operator under which it is narrow
 pub record KeepsBounds (d : Declarations) (t : NodeTable) (class : ℕ → ℕ) (y : Systems) (c : Choice) : Type 0 where
   pub once : (f : OpId) → IsSumOperator d t f → (IsNeutral d f → ⊥) → (k : ℕ) → Uses d t class f k
       → IsNarrow d t class f k → member_count y c f k ≤ 1
   pub some : (f : OpId) → IsSumOperator d t f → (k : ℕ) → Uses d t class f k → IsNeverIdentity d t class f k
       → 0 < member_count y c f k
+  pub untagged : (f : OpId) (k : ℕ) → IsShared d t class k → Uses d t class f k → IsNarrow d t class f k
+      → c.tag k ≢ Some f
+
+-- u gives these variables terms of their sorts
+abbrev pub KeepsSorts : Declarations → List Variable → Substitution → Type 0
+KeepsSorts d vars u = (x : Variable) → Contains vars x → HasSort d (u x) x.sort
 
 -- a unifier on kinds that gives the problem's variables terms of their sorts, and a closed state that admits its
 -- partition
@@ -56,5 +62,5 @@ pub record IsSortedAt (d : Declarations) (problem : Problem) (t : NodeTable) (s 
   pub table : IsTableOf d problem t
   pub closed : IsClosed d t s
   pub unifies : IsKindUnifier d problem u
-  pub sorted : (x : Variable) → Contains (variables_of problem) x → HasSort d (u x) x.sort
+  pub sorted : KeepsSorts d (variables_of problem) u
   pub admits : Admits s (kernel d u t.nodes)

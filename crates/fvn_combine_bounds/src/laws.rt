@@ -6,8 +6,13 @@ ghost use Rattle.fvn_combine_bounds.specs.Laws.{
   ObeyedChoicesKeepBounds,
   NarrowClassesHaveNoTag,
   NeutralOperatorsAdmitSums,
+  SortedLeavesCover,
 };
 
+use fvn_combine_complete::{
+    obeyed_choices_cover, obeyed_choices_fall, tables_have_sums, unifiers_go_with,
+    values_obey_choices,
+};
 use fvn_combine_nodes::unifiers_partition;
 use fvn_sort_bounds::{
     narrow_sorts_have_no_sum, narrow_sorts_have_one_summand, other_sorts_have_some_summand,
@@ -41,6 +46,7 @@ pub fn obeyed_choices_keep_bounds()
     taken_solutions_stand_for_summands();
     narrow_classes_have_one_summand();
     other_classes_have_some_summand();
+    narrow_classes_have_no_tag();
 }
 
 /// No operator under which it is narrow is the tag of a class.
@@ -55,3 +61,15 @@ pub fn narrow_classes_have_no_tag()
 pub fn neutral_operators_admit_sums()
     ensures { NeutralOperatorsAdmitSums }
 {}
+
+/// At a leaf each unifier is covered by a choice, which keeps to what sorts ask where the unifier does.
+pub fn sorted_leaves_cover()
+    ensures { SortedLeavesCover }
+{
+    unifiers_go_with();
+    tables_have_sums();
+    values_obey_choices();
+    obeyed_choices_fall();
+    obeyed_choices_cover();
+    obeyed_choices_keep_bounds();
+}

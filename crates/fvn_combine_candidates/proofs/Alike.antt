@@ -15,6 +15,7 @@ use Rattle.fvn_combine_leaves.specs.Leaves.{IsSumOperator}
 use Rattle.fvn_combine_choices.specs.Choosing.{Systems, Choice, AreTakenTogether, IsAcceptable, IsPossible, Needs, argument, summand, Falls, member_count, taken}
 use Rattle.fvn_combine_choices.specs.Plans.{IsSimpleAt, IsFormBy, StandsFor, IsPlanBy}
 use Rattle.fvn_combine_complete.specs.CoveringChoices.{IsCovering}
+use Rattle.fvn_combine_bounds.specs.Narrow.{KeepsBounds}
 
 module _ (d : Declarations) (t : NodeTable) (class : ℕ → ℕ) (y : Systems) (tag : ℕ → Option OpId) (m n : OpId → ℕ) where
   -- the choices
@@ -46,6 +47,13 @@ module _ (d : Declarations) (t : NodeTable) (class : ℕ → ℕ) (y : Systems) 
   module _ (same : (f : OpId) → IsSumOperator d t f → m f ≡ n f) where
     pub possible_to : IsPossible d t class y this → IsPossible d t class y other
     possible_to h = record { tags = h.tags; acceptable = λ f op. acceptable_to f (same f op) (h.acceptable f op) }
+
+    pub bounds_to : KeepsBounds d t class y this → KeepsBounds d t class y other
+    bounds_to h = record {
+      once = λ f op other_than k used narrow. subst (λ b. b ≤ 1) (same_count f (same f op) k) (h.once f op other_than k used narrow);
+      some = λ f op k used never. subst (λ b. 0 < b) (same_count f (same f op) k) (h.some f op k used never);
+      untagged = h.untagged;
+    }
 
     needs_from : (k l : ℕ) → Needs d t class y other k l → Needs d t class y this k l
     needs_from k l (argument i f ks j over simple of among at) = argument i f ks j over simple of among at

@@ -1,8 +1,9 @@
 -- The lemmas of the crate.
-mod Entries
+pub mod Entries
 mod Systems
 mod Refused
 mod Possible
+mod Bounded
 mod Tagged
 mod Alike
 mod Covered

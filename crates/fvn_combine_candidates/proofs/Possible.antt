@@ -1,5 +1,5 @@
 -- Choices by lists that are possible.
-use Rattle.std.proofs.Common.{◌≡◌, ℕ, ◌/◌, ◌%◌, ◌^◌, ◌<◌, ◌≤◌, true, List, [], length, slice_index, slice_index_or, refl, sym, ap, ◌∙◌, subst, arith, Contains, Option, Some}
+use Rattle.std.proofs.Common.{◌≡◌, ℕ, ◌/◌, ◌%◌, ◌^◌, ◌<◌, ◌≤◌, Bool, true, List, [], length, slice_index, slice_index_or, refl, sym, ap, ◌∙◌, subst, arith, Contains, Option, Some}
 use Rattle.std.specs.Prelude.{◌↔◌, slice_get}
 use Rattle.std.specs.List.{AllZip, sum_by}
 use Rattle.std.proofs.lemmas.Option.{slice_get_within}
@@ -30,7 +30,7 @@ use Rattle.fvn_combine_candidates.specs.declared.sharing.SharedClass.{SharedClas
 use Rattle.fvn_combine_leaves.specs.Bases.{AreBases}
 use Rattle.fvn_combine_candidates.specs.Sharing.{AreSharedClasses}
 use Rattle.fvn_combine_candidates.specs.Tags.{AreTags}
-use Rattle.fvn_combine_candidates.specs.Turning.{IsWheel, AreWheels, LeaveNoAlias}
+use Rattle.fvn_combine_candidates.specs.Turning.{IsWheel, AreWheels, LeaveNoAlias, AreWithin}
 use Rattle.fvn_combine_candidates.proofs.Entries.{entry_at, listed_at, zip_at, zip_from}
 use Rattle.fvn_combine_candidates.proofs.Systems.{IsPlaced, placed, operator_at, columns_for, basis_for, for_operator, make_systems}
 use Rattle.fvn_combine_candidates.proofs.Tagged.{tags_are_users}
@@ -134,7 +134,7 @@ module _ (d : Declarations) (t : NodeTable) (class : ℕ → ℕ) (r : Reading) 
     wheel_here : (i : ℕ) (e : Sums) → slice_get r.sums i ≡ Some e → (w : Wheel) × (slice_get wheels i ≡ Some w)
     wheel_here i e is = entry_at wheels i (let l = slice_get_within r.sums i e is in let m = are_wheels.as_many in omega (arith, l, m))
 
-    pub to_wheels : IsPossible d t class (systems_of r bases) (choice_of r tags numbers) × IsFull d t class (systems_of r bases) (choice_of r tags numbers) → AllZip IsChoice wheels numbers × LeaveNoAlias d t class (tag_in tags) r.sums bases numbers
+    pub to_wheels : IsPossible d t class (systems_of r bases) (choice_of r tags numbers) × IsFull d t class (systems_of r bases) (choice_of r tags numbers) × AreWithin wheels numbers → AllZip IsChoice wheels numbers × LeaveNoAlias d t class (tag_in tags) r.sums bases numbers
     to_wheels h = (
       zip_from IsChoice wheels numbers (let m = are_wheels.as_many in omega (arith, m, numbered)) (λ i w is.
           let l = slice_get_within wheels i w is in
@@ -143,16 +143,17 @@ module _ (d : Declarations) (t : NodeTable) (class : ℕ → ℕ) (r : Reading) 
           let op = op_here i e.0 e.1 in
           record {
             valid = ((at_wheel f op (here i e.0 e.1) w is).0 (h.0.acceptable f op)).0;
+            bounded = h.2 i w is;
             whole = whole_to f op (here i e.0 e.1) w is h.1;
           }),
       λ i e is. alias_from e.operator (here i e is) (h.0.acceptable e.operator (op_here i e is)).no_alias,
     )
 
-    pub from_wheels : (shared : List SharedClass) → AreSharedClasses d t class shared → (options : List ℕ) → AreTags shared options tags
-        → AllZip IsChoice wheels numbers × LeaveNoAlias d t class (tag_in tags) r.sums bases numbers → IsPossible d t class (systems_of r bases) (choice_of r tags numbers) × IsFull d t class (systems_of r bases) (choice_of r tags numbers)
-    from_wheels shared are_shared options are_tags h = (
+    pub from_wheels : (sorted : Bool) (shared : List SharedClass) → AreSharedClasses d t class sorted shared → (options : List ℕ) → AreTags shared options tags
+        → AllZip IsChoice wheels numbers × LeaveNoAlias d t class (tag_in tags) r.sums bases numbers → IsPossible d t class (systems_of r bases) (choice_of r tags numbers) × IsFull d t class (systems_of r bases) (choice_of r tags numbers) × AreWithin wheels numbers
+    from_wheels sorted shared are_shared options are_tags h = (
       record {
-        tags = tags_are_users d t class shared are_shared options tags are_tags;
+        tags = tags_are_users d t class sorted shared are_shared options tags are_tags;
         acceptable = λ f op.
             let p = placed d t class r reading f op in
             let w = wheel_here p.place p.entry p.is in
@@ -163,4 +164,5 @@ module _ (d : Declarations) (t : NodeTable) (class : ℕ → ℕ) (r : Reading) 
           let p = placed d t class r reading f op in
           let w = wheel_here p.place p.entry p.is in
           whole_from f op p w.0 w.1 (zip_at IsChoice wheels numbers h.0 p.place w.0 w.1).whole n,
+      λ i w is. (zip_at IsChoice wheels numbers h.0 i w is).bounded,
     )

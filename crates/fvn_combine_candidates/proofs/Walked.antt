@@ -1,8 +1,8 @@
 -- What loops over sum operators and nodes gather.
-use Rattle.std.proofs.Common.{◌≡◌, ◌≢◌, ◌⊎◌, ℕ, ◌+◌, ◌<◌, ◌≤◌, List, [], ◌∷◌, ◌++◌, length, map, get_or, slice_index, slice_index_or, sym, ap, ◌∙◌, subst, inl, inr, arith, All, Contains, Option, Some}
-use Rattle.std.specs.Prelude.{AllPairs, slice_get}
-use Rattle.std.proofs.lemmas.Bool.{cases_lt, cases_order}
-use Rattle.std.proofs.lemmas.List.{get_or_default, length_push, get_or_append_left, get_or_push, map_push}
+use Rattle.std.proofs.Common.{◌≡◌, ◌≢◌, ◌⊎◌, ℕ, ◌+◌, ◌<◌, ◌≤◌, Bool, true, List, [], ◌∷◌, ◌++◌, length, map, get_or, slice_index, slice_index_or, sym, ap, ◌∙◌, subst, inl, inr, arith, All, Contains, Option, Some}
+use Rattle.std.specs.Prelude.{◌↔◌, AllPairs, slice_get}
+use Rattle.std.proofs.lemmas.Bool.{cases_lt}
+use Rattle.std.proofs.lemmas.List.{length_push, get_or_append_left, get_or_push, map_push}
 use Rattle.std.proofs.lemmas.List.Elements.{All-push, All-weaker, Contains-append_left, Contains-push, Contains-push_cases, Contains-get_or}
 use Rattle.std.proofs.lemmas.List.Quantifiers.{all_pairs_push}
 use Rattle.std.proofs.lemmas.Option.{slice_get_within, slice_get-get_or, get_or_from_slice_get}
@@ -14,19 +14,21 @@ use Rattle.fvn_acunify.specs.ValidChoice.{chosen}
 use Rattle.fvn_combine_nodes.specs.Table.{NodeTable, IsWellMade}
 use Rattle.fvn_combine_nodes.specs.States.{IsClosed, class_of}
 use Rattle.fvn_combine_nodes.specs.declared.state.State.{State}
-use Rattle.fvn_combine_leaves.specs.Leaves.{Uses, IsShared}
+use Rattle.fvn_combine_leaves.specs.Leaves.{IsShared}
 use Rattle.fvn_combine_leaves.specs.Readings.{IsReading}
 use Rattle.fvn_combine_leaves.specs.declared.reading.Sums.{Sums}
 use Rattle.fvn_combine_leaves.specs.declared.reading.Reading.{Reading}
+use Rattle.fvn_combine_choices.specs.Binding.{AreAsked}
+use Rattle.fvn_combine_complete.specs.Neutral.{IsNeutral}
 use Rattle.fvn_combine_admissible.specs.Aliases.{HasNoAlias}
 use Rattle.fvn_combine_leaves.proofs.ReadOfState.{column_within}
 use Rattle.fvn_combine_admissible.proofs.Listing.{operators_differ}
 use Rattle.fvn_acunify_product.specs.Wheels.{Wheel}
 use Rattle.fvn_combine_candidates.specs.declared.sharing.SharedClass.{SharedClass}
 use Rattle.fvn_combine_leaves.specs.Bases.{IsBasis, AreBases}
-use Rattle.fvn_combine_candidates.specs.Sharing.{classes_of, IsSharedClass, AreSharedClasses}
-use Rattle.fvn_combine_candidates.specs.Turning.{IsWheel, AreWheels}
-use Rattle.fvn_combine_candidates.specs.inner.Walking.{AreBasesBelow, AreWheelsBelow, IsUserBelow, AreUsersBelow, AreSharedBelow}
+use Rattle.fvn_combine_candidates.specs.Sharing.{classes_of, MayBeSum, IsSharedClass, AreSharedClasses}
+use Rattle.fvn_combine_candidates.specs.Turning.{IsWheel, AreWheels, HaveBounds}
+use Rattle.fvn_combine_candidates.specs.inner.Walking.{AreBasesBelow, IsBoundedWheel, AreWheelsBelow, IsUserBelow, AreUsersBelow, AreSharedBelow}
 use Rattle.fvn_combine_candidates.proofs.Entries.{read_at, one_entry}
 use Rattle.fvn_combine_candidates.proofs.Systems.{user_placed}
 
@@ -52,9 +54,10 @@ all_bases sums n bases l m h = record {
 }
 
 module _ (d : Declarations) (t : NodeTable) (class : ℕ → ℕ) where
-  module _ (tag : ℕ → Option OpId) (sums : List Sums) (bases : List (List Solution)) where
+  module _ (tag : ℕ → Option OpId) (sorted : Bool) (sums : List Sums) (bases : List (List Solution)) where
     -- one more wheel
-    pub more_wheels : (n : ℕ) (wheels : List Wheel) (e : Sums) (w : Wheel) → n < length sums → e ≡ get_or sums n e → AreWheelsBelow d t class tag sums bases n wheels → IsWheel d t class tag e (slice_index_or bases n []) w → AreWheelsBelow d t class tag sums bases (n + 1) (wheels ++ w ∷ [])
+    pub more_wheels : (n : ℕ) (wheels : List Wheel) (e : Sums) (w : Wheel) → n < length sums → e ≡ get_or sums n e → AreWheelsBelow d t class tag sorted sums bases n wheels
+        → IsBoundedWheel d t class tag sorted e (slice_index_or bases n []) w → AreWheelsBelow d t class tag sorted sums bases (n + 1) (wheels ++ w ∷ [])
     more_wheels n wheels e w l at h here = record {
       as_many = length_push wheels w ∙ ap (λ k. k + 1) h.as_many;
       each = λ i x v m is got. elim (cases_lt i n) [
@@ -67,59 +70,72 @@ module _ (d : Declarations) (t : NodeTable) (class : ℕ → ℕ) where
             let same : i ≡ n = omega (arith, m, above) in
             let one : e ≡ x = one_entry sums n e x (read_at sums n e l at) (subst (λ k. slice_get sums k ≡ Some x) same is) in
             let last : w ≡ v = sym (get_or_push wheels w v i (h.as_many ∙ sym same)) ∙ get_or_from_slice_get (wheels ++ w ∷ []) i v v got in
-            subst (λ k. IsWheel d t class tag x (slice_index_or bases k []) v) (sym same) (subst (IsWheel d t class tag x (slice_index_or bases n [])) last (subst (λ z. IsWheel d t class tag z (slice_index_or bases n []) w) one here))
+            subst (λ k. IsBoundedWheel d t class tag sorted x (slice_index_or bases k []) v) (sym same) (subst (IsBoundedWheel d t class tag sorted x (slice_index_or bases n [])) last (subst (λ z. IsBoundedWheel d t class tag sorted z (slice_index_or bases n []) w) one here))
       ];
     }
 
-    pub all_wheels : (n : ℕ) (wheels : List Wheel) → length sums ≤ n → n ≤ length sums → AreWheelsBelow d t class tag sums bases n wheels → AreWheels d t class tag sums bases wheels
-    all_wheels n wheels l m h = record {
-      as_many = let k = h.as_many in omega (arith, l, m, k);
-      each = λ i e w is got. h.each i e w (let k = slice_get_within sums i e is in omega (arith, k, l)) is got;
-    }
+    module _ (n : ℕ) (wheels : List Wheel) (l : length sums ≤ n) (m : n ≤ length sums) (h : AreWheelsBelow d t class tag sorted sums bases n wheels) where
+      pub all_wheels : AreWheels d t class tag sums bases wheels
+      all_wheels = record {
+        as_many = let k = h.as_many in omega (arith, l, m, k);
+        each = λ i e w is got. (h.each i e w (let k = slice_get_within sums i e is in omega (arith, k, l)) is got).0;
+      }
 
+      pub all_bounds : HaveBounds d t class sorted sums wheels
+      all_bounds i e w is got = (h.each i e w (let k = slice_get_within sums i e is in omega (arith, k, l)) is got).1
+
+  -- a wheel with other bounds
+  pub with_bounds : (tag : ℕ → Option OpId) (e : Sums) (basis : List Solution) (w v : Wheel) → v.constants ≡ w.constants → v.may_be_zero ≡ w.may_be_zero → v.basis ≡ w.basis → v.full ≡ w.full → IsWheel d t class tag e basis w → IsWheel d t class tag e basis v
+  with_bounds tag e basis w v constants marks over full h = record {
+    over = over ∙ h.over;
+    asked = subst (λ cs. AreAsked d t class tag e.operator e.columns cs v.may_be_zero) (sym constants) (subst (AreAsked d t class tag e.operator e.columns w.constants) (sym marks) h.asked);
+    full = subst (λ b. (b ≡ true) ↔ IsNeutral d e.operator) (sym full) h.full;
+  }
+
+module _ (d : Declarations) (t : NodeTable) (class : ℕ → ℕ) (sorted : Bool) where
   module _ (sums : List Sums) (distinct : AllPairs ◌≢◌ (map (λ s. s.operator) sums)) (k : ℕ) where
-    pub no_users : AreUsersBelow d t class sums k 0 []
+    pub no_users : AreUsersBelow d t class sorted sums k 0 []
     no_users = record {
       distinct = λ i j e l m. absurd (omega (arith, m));
       exact = λ f. ((λ m. let l = m.1 in absurd (omega (arith, l))), (λ h. let l = h.before in absurd (omega (arith, l))));
       few = omega arith;
     }
 
-    later_user : (n : ℕ) (f : OpId) → IsUserBelow d t class sums k n f → IsUserBelow d t class sums k (n + 1) f
-    later_user n f h = record { place = h.place; before = (let l = h.before in omega (arith, l)); entry = h.entry; is = h.is; operator = h.operator; uses = h.uses }
+    later_user : (n : ℕ) (f : OpId) → IsUserBelow d t class sorted sums k n f → IsUserBelow d t class sorted sums k (n + 1) f
+    later_user n f h = record { place = h.place; before = (let l = h.before in omega (arith, l)); entry = h.entry; is = h.is; operator = h.operator; may = h.may }
 
     -- a user at the last place, or one before
-    last_user : (n : ℕ) (e : Sums) → slice_get sums n ≡ Some e → (f : OpId) → IsUserBelow d t class sums k (n + 1) f → IsUserBelow d t class sums k n f ⊎ ((e.operator ≡ f) × Uses d t class f k)
+    last_user : (n : ℕ) (e : Sums) → slice_get sums n ≡ Some e → (f : OpId) → IsUserBelow d t class sorted sums k (n + 1) f → IsUserBelow d t class sorted sums k n f ⊎ ((e.operator ≡ f) × MayBeSum d t class sorted f k)
     last_user n e is f h = elim (cases_lt h.place n) [
-      | inl below ↦ inl (record { place = h.place; before = below; entry = h.entry; is = h.is; operator = h.operator; uses = h.uses })
+      | inl below ↦ inl (record { place = h.place; before = below; entry = h.entry; is = h.is; operator = h.operator; may = h.may })
       | inr above ↦
           let same : h.place ≡ n = let l = h.before in omega (arith, l, above) in
           let one : e ≡ h.entry = one_entry sums n e h.entry is (subst (λ i. slice_get sums i ≡ Some h.entry) same h.is) in
-          inr (ap (λ s. s.operator) one ∙ h.operator, h.uses)
+          inr (ap (λ s. s.operator) one ∙ h.operator, h.may)
     ]
 
-    pub not_user : (n : ℕ) (users : List OpId) (e : Sums) → n < length sums → e ≡ get_or sums n e → (Uses d t class e.operator k → ⊥) → AreUsersBelow d t class sums k n users → AreUsersBelow d t class sums k (n + 1) users
+    pub not_user : (n : ℕ) (users : List OpId) (e : Sums) → n < length sums → e ≡ get_or sums n e → (MayBeSum d t class sorted e.operator k → ⊥) → AreUsersBelow d t class sorted sums k n users → AreUsersBelow d t class sorted sums k (n + 1) users
     not_user n users e l at none h = record {
       distinct = h.distinct;
       exact = λ f. (
         λ m. later_user n f ((h.exact f).0 m),
         λ u. elim (last_user n e (read_at sums n e l at) f u) [
           | inl before ↦ (h.exact f).1 before
-          | inr here ↦ absurd (none (subst (λ g. Uses d t class g k) (sym here.0) here.1))
+          | inr here ↦ absurd (none (subst (λ g. MayBeSum d t class sorted g k) (sym here.0) here.1))
         ],
       );
       few = let q = h.few in omega (arith, q);
     }
 
-    pub one_user : (n : ℕ) (users : List OpId) (e : Sums) → n < length sums → e ≡ get_or sums n e → Uses d t class e.operator k → AreUsersBelow d t class sums k n users → AreUsersBelow d t class sums k (n + 1) (users ++ e.operator ∷ [])
-    one_user n users e l at uses h = record {
+    pub one_user : (n : ℕ) (users : List OpId) (e : Sums) → n < length sums → e ≡ get_or sums n e → MayBeSum d t class sorted e.operator k → AreUsersBelow d t class sorted sums k n users → AreUsersBelow d t class sorted sums k (n + 1) (users ++ e.operator ∷ [])
+    one_user n users e l at may h = record {
       distinct = all_pairs_push ◌≢◌ users e.operator h.distinct (λ i f m same.
           let u = (h.exact (get_or users i f)).0 (Contains-get_or users i f m) in
           operators_differ sums distinct u.place n u.entry e u.before u.is (read_at sums n e l at) (u.operator ∙ same));
       exact = λ f. (
         λ m. elim (Contains-push_cases users e.operator f m) [
           | inl before ↦ later_user n f ((h.exact f).0 before)
-          | inr same ↦ record { place = n; before = omega arith; entry = e; is = read_at sums n e l at; operator = same; uses = subst (λ g. Uses d t class g k) same uses }
+          | inr same ↦ record { place = n; before = omega arith; entry = e; is = read_at sums n e l at; operator = same; may = subst (λ g. MayBeSum d t class sorted g k) same may }
         ],
         λ u. elim (last_user n e (read_at sums n e l at) f u) [
           | inl before ↦ Contains-append_left users (e.operator ∷ []) f ((h.exact f).1 before)
@@ -130,7 +146,7 @@ module _ (d : Declarations) (t : NodeTable) (class : ℕ → ℕ) where
     }
 
   module _ (most : ℕ) where
-    pub no_shared : AreSharedBelow d t class most 0 []
+    pub no_shared : AreSharedBelow d t class sorted most 0 []
     no_shared = record {
       each = λ i c l. absurd (omega (arith, l));
       distinct = λ i j e l m. absurd (omega (arith, m));
@@ -142,7 +158,7 @@ module _ (d : Declarations) (t : NodeTable) (class : ℕ → ℕ) where
     wider : (n : ℕ) (list : List ℕ) → All (λ k. k < n) list → All (λ k. k < n + 1) list
     wider n list all = All-weaker (λ k. k < n) (λ k. k < n + 1) (λ k l. omega (arith, l)) list all
 
-    pub not_shared : (n : ℕ) (list : List SharedClass) → (IsShared d t class n → ⊥) → AreSharedBelow d t class most n list → AreSharedBelow d t class most (n + 1) list
+    pub not_shared : (n : ℕ) (list : List SharedClass) → (IsShared d t class n → ⊥) → AreSharedBelow d t class sorted most n list → AreSharedBelow d t class sorted most (n + 1) list
     not_shared n list none h = record {
       each = h.each;
       distinct = h.distinct;
@@ -154,11 +170,11 @@ module _ (d : Declarations) (t : NodeTable) (class : ℕ → ℕ) where
       few = h.few;
     }
 
-    pub one_shared : (n : ℕ) (list : List SharedClass) (c : SharedClass) → c.class ≡ n → IsSharedClass d t class c → length c.users ≤ most → AreSharedBelow d t class most n list → AreSharedBelow d t class most (n + 1) (list ++ c ∷ [])
+    pub one_shared : (n : ℕ) (list : List SharedClass) (c : SharedClass) → c.class ≡ n → IsSharedClass d t class sorted c → length c.users ≤ most → AreSharedBelow d t class sorted most n list → AreSharedBelow d t class sorted most (n + 1) (list ++ c ∷ [])
     one_shared n list c is here few h =
         let pushed : classes_of (list ++ c ∷ []) ≡ classes_of list ++ c.class ∷ [] = map_push (λ (c : SharedClass). c.class) list c in
         record {
-          each = All-push (IsSharedClass d t class) list c h.each here;
+          each = All-push (IsSharedClass d t class sorted) list c h.each here;
           distinct = subst (AllPairs ◌≢◌) (sym pushed) (all_pairs_push ◌≢◌ (classes_of list) c.class h.distinct (λ i k l same.
               let b = h.below i k l in omega (arith, b, same, is)));
           below = subst (All (λ k. k < n + 1)) (sym pushed) (All-push (λ k. k < n + 1) (classes_of list) c.class (wider n (classes_of list) h.below) (omega (arith, is)));
@@ -169,39 +185,28 @@ module _ (d : Declarations) (t : NodeTable) (class : ℕ → ℕ) where
           few = All-push (λ (c : SharedClass). length c.users ≤ most) list c h.few few;
         }
 
--- a list with two different members has two members or more
-two_listed : (xs : List OpId) (x y : OpId) → Contains xs x → Contains xs y → x ≢ y → 2 ≤ length xs
-two_listed xs x y a b other = elim (cases_order a.0 b.0) [
-  | inl same ↦ absurd (other (sym a.2 ∙ get_or_default xs a.0 x y a.1 ∙ ap (λ n. get_or xs n y) same ∙ b.2))
-  | inr o ↦ elim o [
-    | inl below ↦ let l = b.1 in omega (arith, below, l)
-    | inr above ↦ let l = a.1 in omega (arith, above, l)
-  ]
-]
-
-module _ (d : Declarations) (t : NodeTable) (class : ℕ → ℕ) (r : Reading) (reading : IsReading d t class r) where
+module _ (d : Declarations) (t : NodeTable) (class : ℕ → ℕ) (r : Reading) (reading : IsReading d t class r) (sorted : Bool) where
   -- all users are among the list
-  user_listed : (k : ℕ) (users : List OpId) → AreUsersBelow d t class r.sums k (length r.sums) users → (f : OpId) → Uses d t class f k → Contains users f
+  user_listed : (k : ℕ) (users : List OpId) → AreUsersBelow d t class sorted r.sums k (length r.sums) users → (f : OpId) → MayBeSum d t class sorted f k → Contains users f
   user_listed k users h f u =
-      let p = user_placed d t class r reading f k u in
-      (h.exact f).1 (record { place = p.place; before = slice_get_within r.sums p.place p.entry p.is; entry = p.entry; is = p.is; operator = p.operator; uses = u })
+      let p = user_placed d t class r reading f k u.0 in
+      (h.exact f).1 (record { place = p.place; before = slice_get_within r.sums p.place p.entry p.is; entry = p.entry; is = p.is; operator = p.operator; may = u })
 
   -- a shared class with its users
-  pub shared_here : (k : ℕ) (users us : List OpId) → us ≡ users → AreUsersBelow d t class r.sums k (length r.sums) users → IsShared d t class k → k < length t.nodes → IsSharedClass d t class (record { class = k; users = us })
+  pub shared_here : (k : ℕ) (users us : List OpId) → us ≡ users → AreUsersBelow d t class sorted r.sums k (length r.sums) users → IsShared d t class k → k < length t.nodes → IsSharedClass d t class sorted (record { class = k; users = us })
   shared_here k users us same h shared within = record {
     within = within;
     shared = shared;
     distinct = subst (AllPairs ◌≢◌) (sym same) h.distinct;
     exact = λ f. (
-      λ m. ((h.exact f).0 (subst (λ xs. Contains xs f) same m)).uses,
+      λ m. ((h.exact f).0 (subst (λ xs. Contains xs f) same m)).may,
       λ u. subst (λ xs. Contains xs f) (sym same) (user_listed k users h f u),
     );
-    several = subst (λ xs. 2 ≤ length xs) (sym same) (two_listed users shared.first shared.second (user_listed k users h shared.first shared.uses_first) (user_listed k users h shared.second shared.uses_second) shared.different);
   }
 
 -- all shared classes
-pub all_shared : (d : Declarations) (t : NodeTable) → IsWellMade t → (s : State) → IsClosed d t s → (most n : ℕ) (list : List SharedClass) → length t.nodes ≤ n → AreSharedBelow d t (class_of s) most n list → AreSharedClasses d t (class_of s) list
-all_shared d t made s closed most n list l h = record {
+pub all_shared : (d : Declarations) (t : NodeTable) → IsWellMade t → (s : State) → IsClosed d t s → (sorted : Bool) (most n : ℕ) (list : List SharedClass) → length t.nodes ≤ n → AreSharedBelow d t (class_of s) sorted most n list → AreSharedClasses d t (class_of s) sorted list
+all_shared d t made s closed sorted most n list l h = record {
   each = h.each;
   distinct = h.distinct;
   every = λ k shared. h.every k (let b = column_within d t made s closed shared.first k shared.uses_first.column in omega (arith, b, l)) shared;

@@ -1,15 +1,18 @@
 -- Wheels of the sum operators that are read, and what is asked of numbers beside them.
-use Rattle.std.specs.Prelude.{true, ◌↔◌, ◌≡◌, ℕ, List, length, slice_get, slice_index, slice_index_or, [], Some, Option}
+use Rattle.std.specs.Prelude.{Bool, true, false, ◌↔◌, ◌≡◌, ℕ, List, length, slice_get, slice_index, slice_index_or, [], Some, Option}
 use Rattle.fvn_terms.specs.declared.plain.OpId.{OpId}
 use Rattle.fvn_terms.specs.declared.declarations.Declarations.{Declarations}
 use Rattle.fvn_lindio.specs.declared.system.Solution.{Solution}
 use Rattle.fvn_lindio.specs.Systems.{vectors_of}
-use Rattle.fvn_acunify.specs.ValidChoice.{chosen}
+use Rattle.fvn_acunify.specs.Cursor.{unbounded}
+use Rattle.fvn_acunify.specs.ValidChoice.{chosen, IsWithin}
+use Rattle.fvn_acunify.specs.declared.theory.ColumnBounds.{ColumnBounds}
 use Rattle.fvn_combine_nodes.specs.Table.{NodeTable}
 use Rattle.fvn_combine_leaves.specs.declared.reading.Sums.{Sums}
 use Rattle.fvn_combine_choices.specs.Binding.{AreAsked}
 use Rattle.fvn_combine_admissible.specs.Aliases.{HasNoAlias}
 use Rattle.fvn_combine_complete.specs.Neutral.{IsNeutral}
+use Rattle.fvn_combine_bounds.specs.Bounding.{AreBounds}
 use Rattle.fvn_acunify_product.specs.Wheels.{Wheel}
 
 module _ (d : Declarations) (t : NodeTable) (class : ℕ → ℕ) (tag : ℕ → Option OpId) where
@@ -29,3 +32,19 @@ module _ (d : Declarations) (t : NodeTable) (class : ℕ → ℕ) (tag : ℕ →
   LeaveNoAlias sums bases numbers =
       (i : ℕ) (e : Sums) → slice_get sums i ≡ Some e
       → HasNoAlias d t class tag e.operator e.columns (chosen (slice_index numbers i) (vectors_of (slice_index_or bases i [])))
+
+module _ (d : Declarations) (t : NodeTable) (class : ℕ → ℕ) (sorted : Bool) where
+  -- the bounds are what sorts ask of the operator's columns, where sorts are heeded, and else there are none
+  pub record HasBounds (e : Sums) (bounds : ColumnBounds) : Type 0 where
+    pub heeded : sorted ≡ true → AreBounds d t class e bounds
+    pub none : sorted ≡ false → bounds ≡ unbounded
+
+  -- the wheel of each sum operator has such bounds
+  abbrev pub HaveBounds : List Sums → List Wheel → Type 0
+  HaveBounds sums wheels =
+      (i : ℕ) (e : Sums) (w : Wheel) → slice_get sums i ≡ Some e → slice_get wheels i ≡ Some w → HasBounds e w.bounds
+
+-- these numbers, one for each wheel, keep within its bounds
+abbrev pub AreWithin : List Wheel → List ℕ → Type 0
+AreWithin wheels numbers =
+    (i : ℕ) (w : Wheel) → slice_get wheels i ≡ Some w → IsWithin w.bounds (vectors_of w.basis) (slice_index numbers i)

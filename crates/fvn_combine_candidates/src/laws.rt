@@ -4,12 +4,14 @@ ghost use Rattle.fvn_combine_candidates.specs.Laws.{
   BasesMakeSystems,
   RefusalsAreCauses,
   ListedChoicesArePossible,
+  SortedChoicesAreWithin,
   CoveringChoicesAreListed,
   ListsCover,
 };
 
+use fvn_combine_bounds::sorted_leaves_cover;
 use fvn_combine_choices::valid_choices_are_acceptable;
-use fvn_combine_complete::{leaves_cover, readings_tell};
+use fvn_combine_complete::readings_tell;
 use fvn_combine_nodes::node_partitions_are_partitions;
 use fvn_combine_systems::node_systems_are_sum_systems;
 
@@ -31,13 +33,18 @@ pub fn refusals_are_causes()
     node_systems_are_sum_systems();
 }
 
-/// Tags and numbers are a possible choice that is full where the numbers are choices of the wheels and no
-/// class is an alias.
+/// Tags and numbers are a possible choice that is full, and within bounds, where the numbers are choices of the
+/// wheels and no class is an alias.
 pub fn listed_choices_are_possible()
     ensures { ListedChoicesArePossible }
 {
     valid_choices_are_acceptable();
 }
+
+/// A choice that keeps to what sorts ask is within the wheels' bounds.
+pub fn sorted_choices_are_within()
+    ensures { SortedChoicesAreWithin }
+{}
 
 /// A choice that covers a unifier can be listed.
 pub fn covering_choices_are_listed()
@@ -48,8 +55,9 @@ pub fn covering_choices_are_listed()
 pub fn lists_cover()
     ensures { ListsCover }
 {
-    leaves_cover();
+    sorted_leaves_cover();
     readings_tell();
     covering_choices_are_listed();
     listed_choices_are_possible();
+    sorted_choices_are_within();
 }

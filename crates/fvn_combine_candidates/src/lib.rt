@@ -12,7 +12,7 @@ mod turning;
 pub use aliases::leave_no_alias;
 pub use laws::{
     bases_make_systems, covering_choices_are_listed, listed_choices_are_possible, lists_cover,
-    refusals_are_causes, sum_operators_are_few,
+    refusals_are_causes, sorted_choices_are_within, sum_operators_are_few,
 };
 pub use neutral::is_neutral;
 pub use opening::{OpenFault, bases};

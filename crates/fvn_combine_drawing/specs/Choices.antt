@@ -1,5 +1,5 @@
 -- A choice at a leaf, as it is listed.
-use Rattle.std.specs.Prelude.{ℕ, List, Option}
+use Rattle.std.specs.Prelude.{ℕ, Bool, List, Option}
 use Rattle.std.specs.List.{AllZip}
 use Rattle.fvn_terms.specs.declared.plain.OpId.{OpId}
 use Rattle.fvn_terms.specs.declared.declarations.Declarations.{Declarations}
@@ -15,8 +15,9 @@ use Rattle.fvn_combine_candidates.specs.declared.sharing.SharedClass.{SharedClas
 
 -- tags of the shared classes by some options, and for each sum operator a choice of its operator's wheel
 pub record IsListedChoice (d : Declarations) (t : NodeTable) (class : ℕ → ℕ) (r : Reading) (bases : List (List Solution)) (tags : List (Option OpId)) (numbers : List ℕ) : Type 0 where
+  pub sorted : Bool
   pub shared : List SharedClass
-  pub are_shared : AreSharedClasses d t class shared
+  pub are_shared : AreSharedClasses d t class sorted shared
   pub options : List ℕ
   pub are_tags : AreTags shared options tags
   pub wheels : List Wheel

@@ -1,5 +1,5 @@
--- Forms that another operator heads.
-use Rattle.std.proofs.Common.{◌≡◌, ◌≢◌, true, false, [], ◌∷◌, refl, sym, ap, ◌∙◌, Option, Some, None}
+-- What heads forms.
+use Rattle.std.proofs.Common.{◌≡◌, ◌≢◌, ◌≤◌, true, false, [], ◌∷◌, length, refl, sym, ap, ◌∙◌, arith, Option, Some, None}
 use Rattle.std.specs.Prelude.{Bool, if◌then◌else◌}
 use Rattle.fvn_terms.specs.declared.plain.OpId.{OpId}
 use Rattle.fvn_terms.specs.declared.declarations.Declarations.{Declarations}
@@ -28,3 +28,21 @@ headed_part d f g other no_unit (fapp o false fnone) h = go (identity (axioms d 
     go None i = refl
     go (Some e) i = at e (same_op e o) refl i
 headed_part d f g other no_unit (fapp o false (fmore t ts)) h = refl
+
+-- a form with two summands under f is headed by f
+pub large_head : (d : Declarations) (f : OpId) (v : FlatTerm) → 2 ≤ length (parts d f v) → head_of v ≡ Some f
+large_head d f (fvar x) h = absurd (omega (arith, h))
+large_head d f (fapp o true ts) h = go (same_op f o) refl h
+  where
+    go : (b : Bool) → same_op f o ≡ b → 2 ≤ length (if b then funpack ts else fapp o true ts ∷ []) → head_of (fapp o true ts) ≡ Some f
+    go true e h = ap Some (sym (same_op_is f o e))
+    go false e h = absurd (omega (arith, h))
+large_head d f (fapp o false fnone) h = absurd (go (identity (axioms d f)) refl h)
+  where
+    few : (b : Bool) → 2 ≤ length (if b then [] else fconstant o ∷ []) → ⊥
+    few true h = omega (arith, h)
+    few false h = omega (arith, h)
+
+    go : (i : Option OpId) → identity (axioms d f) ≡ i → 2 ≤ length (if is_identity i o then [] else fconstant o ∷ []) → ⊥
+    go i e h = few (is_identity i o) h
+large_head d f (fapp o false (fmore t ts)) h = absurd (omega (arith, h))

@@ -5,3 +5,4 @@ mod Headed
 mod Values
 mod Sides
 mod Told
+mod HeadsTold

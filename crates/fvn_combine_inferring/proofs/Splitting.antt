@@ -10,7 +10,7 @@ use Rattle.fvn_combine_nodes.specs.Table.{NodeTable}
 use Rattle.fvn_combine_nodes.specs.declared.state.State.{State}
 use Rattle.fvn_combine_inferring.specs.declared.rows.Row.{Row}
 use Rattle.fvn_combine_inferring.specs.inner.Lists.{IsCancelled, IsWithout}
-use Rattle.fvn_combine_inferring.specs.inner.Splits.{IsSplit, AreSplits, IsUnsplit, noted, AreWithin, IsSplitPlace, IsExpression, IsReduced}
+use Rattle.fvn_combine_inferring.specs.inner.Splits.{IsSplit, AreSplits, IsUnsplit, noted, AreWithin, IsSplitPlace, IsExpression, IsSum, IsReduced}
 
 -- no place is noted yet, or one more
 pub unsplit_none : IsUnsplit 0 []
@@ -75,24 +75,32 @@ module _ (splits : List (Option (ℕ × ℕ))) where
         All-set P (list ++ p.1 ∷ []) place p.0 q.0 (All-push P list p.1 h.below q.1);
   })
 
-  -- both sides of what is left of an equation weigh the same
-  pub reduced_is : (unit : Option ℕ) (k a b : ℕ) (first second whole added now rest left right : List ℕ) → IsExpression splits a first → IsExpression splits b second → IsExpression splits k whole
-      → added ≡ first ++ second → IsCancelled added whole now rest → IsWithout unit now left → IsWithout unit rest right → (row : Row) → row.left.items ≡ left → row.right.items ≡ right → IsReduced splits unit k a b row
-  reduced_is unit k a b first second whole added now rest left right ea eb ek is c wl wr row left_is right_is = record {
-    weight = λ w additive nothing equation.
+  -- both classes as sums, one after the other
+  pub sum_is : (a b : ℕ) (first second list : List ℕ) → IsExpression splits a first → IsExpression splits b second → list ≡ first ++ second → IsSum splits a b list
+  sum_is a b first second list ea eb is = record {
+    weight = λ w additive.
         let x = ea.weight w additive in
         let y = eb.weight w additive in
-        let z = ek.weight w additive in
         let u = ap (sum_by w) is ∙ sum_by-append w first second in
+        omega (arith, x, y, u);
+    below = let P = λ (i : ℕ). i < length splits in subst (All P) (sym is) (All-append P first second ea.below eb.below);
+  }
+
+  -- both sides of what is left of an equation weigh the same
+  pub reduced_is : (unit : Option ℕ) (k a b : ℕ) (whole added now rest left right : List ℕ) → IsSum splits a b added → IsExpression splits k whole
+      → IsCancelled added whole now rest → IsWithout unit now left → IsWithout unit rest right → (row : Row) → row.left.items ≡ left → row.right.items ≡ right → IsReduced splits unit k a b row
+  reduced_is unit k a b whole added now rest left right sum ek c wl wr row left_is right_is = record {
+    weight = λ w additive nothing equation.
+        let u = sum.weight w additive in
+        let z = ek.weight w additive in
         let v = c.balance w in
         let p = ap (sum_by w) left_is ∙ wl.balance w nothing in
         let q = ap (sum_by w) right_is ∙ wr.balance w nothing in
-        omega (arith, x, y, z, u, v, p, q, equation);
+        omega (arith, z, u, v, p, q, equation);
     left =
         let n = length splits in
         let P = λ (i : ℕ). i < n in
-        let all = subst (All P) (sym is) (All-append P first second ea.below eb.below) in
-        subst (All P) (sym left_is) (wl.below n (c.below_left n all));
+        subst (All P) (sym left_is) (wl.below n (c.below_left n sum.below));
     right =
         let n = length splits in
         subst (All (λ i. i < n)) (sym right_is) (wr.below n (c.below_right n ek.below));

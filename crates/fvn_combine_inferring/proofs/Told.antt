@@ -12,7 +12,7 @@ use Rattle.fvn_terms.specs.Signature.{axioms}
 use Rattle.fvn_forms.specs.Flat.{FlatTerm}
 use Rattle.fvn_forms.specs.InOrder.{one_if, count}
 use Rattle.fvn_forms.specs.Order.{same_flat}
-use Rattle.fvn_forms.proofs.Order.{same_flat_is}
+use Rattle.fvn_forms.proofs.Order.{same_flat_is, same_flat_itself}
 use Rattle.fvn_forms.proofs.InOrder.{count_append, count_itself, sort_same_counts, length_sort}
 use Rattle.fvn_forms.proofs.Sums.{sum_parts, sum_same_counts}
 use Rattle.fvn_flat.specs.Partitions.{HasNoIdentity}
@@ -25,6 +25,7 @@ use Rattle.fvn_combine_complete.specs.Obeying.{GoWith}
 use Rattle.fvn_combine_inferring.specs.Inferred.{HasNoValues, HaveOneValue, HaveTwoValues}
 use Rattle.fvn_combine_inferring.specs.Rows.{summands, times, many, HaveSameSummands, AreSides, IsSummand, IsAmong}
 use Rattle.fvn_combine_inferring.specs.inner.Splits.{IsUnitNode}
+use Rattle.fvn_combine_inferring.specs.inner.Bounds.{IsOrDiffers}
 use Rattle.fvn_combine_inferring.proofs.Values.{nothing_value, bare_summand}
 
 scaled-lt : (n a b : ℕ) → a < b → suc n * a < suc n * b
@@ -145,7 +146,7 @@ module _ (d : Declarations) (t : NodeTable) (s : State) where
         omega (arith, a, b, c)
 
     -- both sides have equally many summands
-    same_many : (values : ℕ → FlatTerm) (xs ys : List ℕ) → HaveSameSummands d s f values xs ys → sum_by (many d s f values) xs ≡ sum_by (many d s f values) ys
+    pub same_many : (values : ℕ → FlatTerm) (xs ys : List ℕ) → HaveSameSummands d s f values xs ys → sum_by (many d s f values) xs ≡ sum_by (many d s f values) ys
     same_many values xs ys h =
         let l = all_summands values xs in
         let m = all_summands values ys in
@@ -208,6 +209,26 @@ module _ (d : Declarations) (t : NodeTable) (s : State) where
         let c = among values go q in
         let z = none_times values q ys (λ i e l. other_times values q (get_or ys i e) (single i e l values go) (differ i e l values go)) in
         omega (arith, a, b, c, z)
+
+    -- a single summand that differs from all it is among but one has the value of that one
+    pub bag_one : (k l : ℕ) (ys : List ℕ) → IsSummand d t s f k → All (IsSummand d t s f) ys → IsAmong d t s f k ys → All (IsOrDiffers d t s k l) ys → HaveOneValue d t s k l
+    bag_one k l ys one single among others values go = at (same_flat (values (class_of s k)) (values (class_of s l))) refl
+      where
+        differs : same_flat (values (class_of s k)) (values (class_of s l)) ≡ false → (y : ℕ) → IsOrDiffers d t s k l y → values (class_of s k) ≢ values (class_of s y)
+        differs e y (inl is) same =
+            let back : values (class_of s l) ≡ values (class_of s k) = sym (same ∙ ap (λ n. values (class_of s n)) is) in
+            false≢true (sym e ∙ ap (same_flat (values (class_of s k))) back ∙ same_flat_itself (values (class_of s k)))
+        differs e y (inr two) same = two values go same
+
+        at : (b : Bool) → same_flat (values (class_of s k)) (values (class_of s l)) ≡ b → values (class_of s k) ≡ values (class_of s l)
+        at true e = same_flat_is (values (class_of s k)) (values (class_of s l)) e
+        at false e =
+            let q = values (class_of s k) in
+            let a = ap (count q) (one values go) in
+            let b = count_itself q [] in
+            let c = among values go q in
+            let z = none_times values q ys (λ i x within. other_times values q (get_or ys i x) (single i x within values go) (differs e (get_or ys i x) (others i x within))) in
+            absurd (omega (arith, a, b, c, z))
 
     -- what stands on one side is among the other
     pub among_side : (xs ys : List ℕ) (i k : ℕ) → i < length xs → k ≡ get_or xs i 0 → AreSides d t s f xs ys → IsAmong d t s f k ys

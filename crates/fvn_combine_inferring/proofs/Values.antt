@@ -22,13 +22,13 @@ use Rattle.fvn_combine_nodes.proofs.Admitting.{named_within}
 use Rattle.fvn_combine_nodes.proofs.Nodes.{arguments_within}
 use Rattle.fvn_combine_nodes.proofs.Heading.{some_part, build_head}
 use Rattle.fvn_combine_leaves.specs.Leaves.{IsSolid}
-use Rattle.fvn_combine_leaves.specs.Readings.{AreHeads}
 use Rattle.fvn_combine_choices.specs.Tables.{HasSums}
 use Rattle.fvn_combine_complete.specs.Obeying.{GoWith}
 use Rattle.fvn_combine_inferring.specs.Rows.{summands, times, many}
 use Rattle.fvn_combine_inferring.specs.inner.Bounds.{IsHeadedApart, HaveTwoHeads}
 use Rattle.fvn_combine_inferring.specs.inner.Splits.{IsUnitNode, IsUnitClass, IsSplit, AreSplits, IsAdditive, AreWithin}
 use Rattle.fvn_combine_inferring.proofs.Headed.{headed_part}
+use Rattle.fvn_combine_inferring.specs.Inferred.{TellHeads}
 
 module _ (d : Declarations) (t : NodeTable) (s : State) (closed : IsClosed d t s) where
   -- the node that names a class is in it
@@ -63,7 +63,7 @@ module _ (d : Declarations) (t : NodeTable) (has : HasSums d t) (s : State) (clo
   settled_values (k ∷ ks) = (go_with.are.settled (class_of s k), settled_values ks)
 
   -- an operator without an identity that heads a member heads the value
-  head_of_solid : (g : OpId) (k : ℕ) → IsSolid d t (class_of s) g k → head_of (values k) ≡ Some g
+  pub head_of_solid : (g : OpId) (k : ℕ) → IsSolid d t (class_of s) g k → head_of (values k) ≡ Some g
   head_of_solid g k h =
       ap (λ n. head_of (values n)) (sym h.of)
       ∙ ap head_of (go_with.are.built h.member g h.arguments h.over)
@@ -114,9 +114,9 @@ module _ (d : Declarations) (t : NodeTable) (has : HasSums d t) (s : State) (clo
     times_additive splits are q k p e = split_adds k p (are.each k p e) q
 
   -- a class that another operator heads has its value as its one summand
-  pub headed_summand : (heads : List (Option OpId)) → AreHeads d t (class_of s) heads → (f : OpId) (k : ℕ) → k < length t.nodes → IsHeadedApart d f heads (class_of s k) → summands d s f values k ≡ values (class_of s k) ∷ []
+  pub headed_summand : (heads : List (Option OpId)) → TellHeads d t s heads → (f : OpId) (k : ℕ) → k < length t.nodes → IsHeadedApart d f heads (class_of s k) → summands d s f values k ≡ values (class_of s k) ∷ []
   headed_summand heads are f k l h =
-      headed_part d f h.0 h.2.0 h.2.1 (values (class_of s k)) (head_of_solid h.0 (class_of s k) ((are.exact (class_of s k) h.0 (name_within d t s closed k l)).0 h.1))
+      headed_part d f h.0 h.2.0 h.2.1 (values (class_of s k)) (are.headed (class_of s k) h.0 (name_within d t s closed k l) h.1 values go_with)
 
   -- under an operator without an identity each value has a summand
   pub bare_summand : (f : OpId) (k : ℕ) → HasNoIdentity (axioms d f) → 1 ≤ many d s f values k
@@ -131,8 +131,8 @@ module _ (d : Declarations) (t : NodeTable) (has : HasSums d t) (s : State) (clo
       go (x ∷ xs) e = let m = ap length e in omega (arith, m)
 
   -- two heads make two values
-  pub heads_differ : (heads : List (Option OpId)) → AreHeads d t (class_of s) heads → (i j : ℕ) → i < length t.nodes → j < length t.nodes → HaveTwoHeads heads (class_of s i) (class_of s j) → values (class_of s i) ≢ values (class_of s j)
+  pub heads_differ : (heads : List (Option OpId)) → TellHeads d t s heads → (i j : ℕ) → i < length t.nodes → j < length t.nodes → HaveTwoHeads heads (class_of s i) (class_of s j) → values (class_of s i) ≢ values (class_of s j)
   heads_differ heads are i j l m h e =
-      let a = head_of_solid h.0 (class_of s i) ((are.exact (class_of s i) h.0 (name_within d t s closed i l)).0 h.2) in
-      let b = head_of_solid h.1 (class_of s j) ((are.exact (class_of s j) h.1 (name_within d t s closed j m)).0 h.3) in
+      let a = are.headed (class_of s i) h.0 (name_within d t s closed i l) h.2 values go_with in
+      let b = are.headed (class_of s j) h.1 (name_within d t s closed j m) h.3 values go_with in
       h.4 (let p : Some h.0 ≡ Some h.1 = sym a ∙ ap head_of e ∙ b in cc)

@@ -1,7 +1,9 @@
 -- What all values that go with a state have in common. A unifier whose partition the state admits gives such values.
-use Rattle.std.specs.Prelude.{◌≡◌, ◌≢◌, ℕ, ◌<◌, length}
+use Rattle.std.specs.Prelude.{◌≡◌, ◌≢◌, ℕ, ◌<◌, List, length, slice_index_or, Option, Some, None}
+use Rattle.fvn_terms.specs.declared.plain.OpId.{OpId}
 use Rattle.fvn_terms.specs.declared.declarations.Declarations.{Declarations}
 use Rattle.fvn_forms.specs.Flat.{FlatTerm}
+use Rattle.fvn_flat.specs.Forms.{head_of}
 use Rattle.fvn_combine_nodes.specs.Table.{NodeTable}
 use Rattle.fvn_combine_nodes.specs.States.{IsOpen, class_of}
 use Rattle.fvn_combine_nodes.specs.declared.state.State.{State}
@@ -10,6 +12,11 @@ use Rattle.fvn_combine_inferring.specs.declared.inferring.Inferred.{Inferred}
 use Rattle.fvn_combine_inferring.specs.declared.inferring.Inferred.TheVariants.{Nothing, Impossible, Together, Question}
 
 module _ (d : Declarations) (t : NodeTable) (s : State) where
+  -- the operator that is noted of a class heads its value, whatever values go with the state
+  pub record TellHeads (heads : List (Option OpId)) : Type 0 where
+    pub as_many : length heads ≡ length t.nodes
+    pub headed : (k : ℕ) (f : OpId) → k < length t.nodes → slice_index_or heads k None ≡ Some f → (values : ℕ → FlatTerm) → GoWith d t s values → head_of (values k) ≡ Some f
+
   -- no values go with the state
   abbrev pub HasNoValues : Type 0
   HasNoValues = (values : ℕ → FlatTerm) → GoWith d t s values → ⊥

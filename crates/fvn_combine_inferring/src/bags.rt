@@ -1,14 +1,14 @@
 //! Bags: where both sides are made of single summands, each of one side is one of the other.
 ghost use Rattle.std.specs.Prelude.{◌<◌, length, All};
 ghost use Rattle.fvn_combine_choices.specs.Tables.{HasSums};
-ghost use Rattle.fvn_combine_leaves.specs.Readings.{AreHeads};
-ghost use Rattle.fvn_combine_nodes.specs.States.{IsClosed, class_of};
-ghost use Rattle.fvn_combine_inferring.specs.Inferred.{IsInferred};
+ghost use Rattle.fvn_combine_nodes.specs.States.{IsClosed};
+ghost use Rattle.fvn_combine_inferring.specs.Inferred.{TellHeads, IsInferred};
 ghost use Rattle.fvn_combine_inferring.specs.Rows.{AreSides, IsSummand, IsAmong};
 
 use crate::bounds::{are_summands, is_summand};
-use crate::differing::candidate;
+use crate::differing::{candidate, is_only};
 use crate::inferring::Inferred;
+use crate::meeting::met;
 use fvn_combine_nodes::{State, Table};
 use fvn_signature::Signature;
 use fvn_terms::OpId;
@@ -25,7 +25,7 @@ fn matched(
 ) -> Inferred
     requires closed { IsClosed sig.now table.now state.now }
     requires sums { HasSums sig.now table.now }
-    requires heads { AreHeads sig.now table.now (class_of state.now) heads.now }
+    requires heads { TellHeads sig.now table.now state.now heads.now }
     requires within { k < length table.now.nodes }
     requires list { All (λ l. l < length table.now.nodes) list.now }
     requires one { IsSummand sig.now table.now state.now f k }
@@ -37,6 +37,9 @@ fn matched(
     match candidate(sig, table, state, heads, k, list) {
         None => Inferred::Impossible,
         Some(l) => {
+            if is_only(sig, table, state, heads, k, l, list) {
+                return met(sig, table, state, k, l);
+            }
             if state.is_open(k, l) {
                 Inferred::Question(k, l)
             } else {
@@ -58,7 +61,7 @@ pub(crate) fn bagged(
 ) -> Inferred
     requires closed { IsClosed sig.now table.now state.now }
     requires sums { HasSums sig.now table.now }
-    requires heads { AreHeads sig.now table.now (class_of state.now) heads.now }
+    requires heads { TellHeads sig.now table.now state.now heads.now }
     requires left { All (λ k. k < length table.now.nodes) first.now }
     requires right { All (λ k. k < length table.now.nodes) second.now }
     requires sides { AreSides sig.now table.now state.now f first.now second.now }

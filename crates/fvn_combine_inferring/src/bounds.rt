@@ -3,10 +3,10 @@ ghost use Rattle.std.specs.Prelude.{◌≡◌, ℕ, ◌<◌, ◌≤◌, true, le
 ghost use Rattle.fvn_forms.specs.Flat.{FlatTerm};
 ghost use Rattle.fvn_combine_choices.specs.Tables.{HasSums};
 ghost use Rattle.fvn_combine_complete.specs.Obeying.{GoWith};
-ghost use Rattle.fvn_combine_leaves.specs.Readings.{AreHeads};
 ghost use Rattle.fvn_combine_nodes.specs.States.{IsClosed, IsNaming, class_of, is_apart};
 ghost use Rattle.fvn_combine_inferring.specs.Rows.{many, HasSummand, IsSummand};
 ghost use Rattle.fvn_combine_inferring.specs.inner.Bounds.{IsOtherHead, IsHeadedApart};
+ghost use Rattle.fvn_combine_inferring.specs.Inferred.{TellHeads};
 
 use crate::expressions::unit_of;
 use fvn_combine_nodes::{State, Table, has_no_identity};
@@ -82,7 +82,7 @@ pub(crate) fn is_summand(
 ) -> bool
     requires closed { IsClosed sig.now table.now state.now }
     requires sums { HasSums sig.now table.now }
-    requires heads { AreHeads sig.now table.now (class_of state.now) heads.now }
+    requires heads { TellHeads sig.now table.now state.now heads.now }
     requires within { k < length table.now.nodes }
     ensures { IsTrue result → IsSummand sig.now table.now state.now f k }
 {
@@ -101,7 +101,7 @@ fn has_summand(
 ) -> bool
     requires closed { IsClosed sig.now table.now state.now }
     requires sums { HasSums sig.now table.now }
-    requires heads { AreHeads sig.now table.now (class_of state.now) heads.now }
+    requires heads { TellHeads sig.now table.now state.now heads.now }
     requires within { k < length table.now.nodes }
     ensures { IsTrue result → HasSummand sig.now table.now state.now f k }
 {
@@ -125,7 +125,7 @@ pub(crate) fn are_summands(
 ) -> bool
     requires closed { IsClosed sig.now table.now state.now }
     requires sums { HasSums sig.now table.now }
-    requires heads { AreHeads sig.now table.now (class_of state.now) heads.now }
+    requires heads { TellHeads sig.now table.now state.now heads.now }
     requires within { All (λ k. k < length table.now.nodes) list.now }
     ensures { IsTrue result → All (IsSummand sig.now table.now state.now f) list.now }
 {
@@ -148,7 +148,7 @@ pub(crate) fn count_summands(
 ) -> usize
     requires closed { IsClosed sig.now table.now state.now }
     requires sums { HasSums sig.now table.now }
-    requires heads { AreHeads sig.now table.now (class_of state.now) heads.now }
+    requires heads { TellHeads sig.now table.now state.now heads.now }
     requires within { All (λ k. k < length table.now.nodes) list.now }
     ensures { (values : ℕ → FlatTerm) → GoWith sig.now table.now state.now values
         → result ≤ sum_by (many sig.now state.now f values) list.now }

@@ -1,10 +1,9 @@
 //! Classes whose values differ for sure.
 ghost use Rattle.std.specs.Prelude.{◌<◌, length, All, IsTrue, MatchOption};
 ghost use Rattle.fvn_combine_choices.specs.Tables.{HasSums};
-ghost use Rattle.fvn_combine_leaves.specs.Readings.{AreHeads};
-ghost use Rattle.fvn_combine_nodes.specs.States.{IsClosed, class_of};
-ghost use Rattle.fvn_combine_inferring.specs.Inferred.{HaveTwoValues};
-ghost use Rattle.fvn_combine_inferring.specs.inner.Bounds.{HaveTwoHeads};
+ghost use Rattle.fvn_combine_nodes.specs.States.{IsClosed};
+ghost use Rattle.fvn_combine_inferring.specs.Inferred.{TellHeads, HaveTwoValues};
+ghost use Rattle.fvn_combine_inferring.specs.inner.Bounds.{HaveTwoHeads, IsOrDiffers};
 
 use crate::bounds::are_apart;
 use fvn_combine_nodes::{State, Table};
@@ -26,8 +25,8 @@ fn have_two_heads(heads: &[Option<OpId>], k: usize, l: usize) -> bool
     }
 }
 
-// Whether the classes of two nodes have different values for sure: they are kept apart, or have two heads.
-pub(crate) fn differ(
+/// Whether the classes of two nodes have different values for sure: they are kept apart, or have two heads.
+pub fn differ(
     sig: &Signature,
     table: &Table,
     state: &State,
@@ -37,7 +36,7 @@ pub(crate) fn differ(
 ) -> bool
     requires closed { IsClosed sig.now table.now state.now }
     requires sums { HasSums sig.now table.now }
-    requires heads { AreHeads sig.now table.now (class_of state.now) heads.now }
+    requires heads { TellHeads sig.now table.now state.now heads.now }
     requires left { i < length table.now.nodes }
     requires right { j < length table.now.nodes }
     ensures { IsTrue result → HaveTwoValues sig.now table.now state.now i j }
@@ -61,7 +60,7 @@ pub(crate) fn candidate(
 ) -> Option<usize>
     requires closed { IsClosed sig.now table.now state.now }
     requires sums { HasSums sig.now table.now }
-    requires heads { AreHeads sig.now table.now (class_of state.now) heads.now }
+    requires heads { TellHeads sig.now table.now state.now heads.now }
     requires within { k < length table.now.nodes }
     requires list { All (λ l. l < length table.now.nodes) list.now }
     ensures { MatchOption result (All (HaveTwoValues sig.now table.now state.now k) list.now)
@@ -73,4 +72,52 @@ pub(crate) fn candidate(
         }
     }
     None
+}
+
+// Whether node x is l, or its class is known to differ from that of node k.
+fn is_passed(
+    sig: &Signature,
+    table: &Table,
+    state: &State,
+    heads: &[Option<OpId>],
+    k: usize,
+    l: usize,
+    x: usize,
+) -> bool
+    requires closed { IsClosed sig.now table.now state.now }
+    requires sums { HasSums sig.now table.now }
+    requires heads { TellHeads sig.now table.now state.now heads.now }
+    requires within { k < length table.now.nodes }
+    requires other { x < length table.now.nodes }
+    ensures { IsTrue result → IsOrDiffers sig.now table.now state.now k l x }
+{
+    if x == l {
+        return true;
+    }
+    differ(sig, table, state, heads, k, x)
+}
+
+// Whether the classes of all nodes of the list but l are known to differ from that of node k.
+pub(crate) fn is_only(
+    sig: &Signature,
+    table: &Table,
+    state: &State,
+    heads: &[Option<OpId>],
+    k: usize,
+    l: usize,
+    list: &[usize],
+) -> bool
+    requires closed { IsClosed sig.now table.now state.now }
+    requires sums { HasSums sig.now table.now }
+    requires heads { TellHeads sig.now table.now state.now heads.now }
+    requires within { k < length table.now.nodes }
+    requires list { All (λ x. x < length table.now.nodes) list.now }
+    ensures { IsTrue result → All (IsOrDiffers sig.now table.now state.now k l) list.now }
+{
+    for x in list {
+        if !is_passed(sig, table, state, heads, k, l, *x) {
+            return false;
+        }
+    }
+    true
 }

@@ -3,9 +3,9 @@ ghost use Rattle.std.specs.Prelude.{◌≡◌, ◌≢◌, ◌↔◌, ◌⊎◌, 
 ghost use Rattle.fvn_terms.specs.Signature.{axioms};
 ghost use Rattle.fvn_terms.specs.Equality.{IsAssociative};
 ghost use Rattle.fvn_combine_choices.specs.Tables.{HasSums};
-ghost use Rattle.fvn_combine_leaves.specs.Readings.{AreHeads, IsReading};
+ghost use Rattle.fvn_combine_leaves.specs.Readings.{IsReading};
 ghost use Rattle.fvn_combine_nodes.specs.States.{IsClosed, class_of};
-ghost use Rattle.fvn_combine_inferring.specs.Inferred.{IsInferred};
+ghost use Rattle.fvn_combine_inferring.specs.Inferred.{TellHeads, IsInferred};
 ghost use Rattle.fvn_combine_inferring.specs.inner.Splits.{IsAddition};
 
 use crate::expressions::{Addition, addition_of};
@@ -75,7 +75,7 @@ fn infer_at(
 ) -> Result<Inferred, NoMemory>
     requires closed { IsClosed sig.now table.now state.now }
     requires sums { HasSums sig.now table.now }
-    requires heads { AreHeads sig.now table.now (class_of state.now) heads.now }
+    requires heads { TellHeads sig.now table.now state.now heads.now }
     requires addition { IsAddition sig.now table.now state.now addition.now }
     requires within { i < length table.now.nodes }
     ensures { IfOk result (IsInferred sig.now table.now state.now) }
@@ -102,7 +102,7 @@ fn infer_of(
     requires associative { IsAssociative (axioms sig.now f) }
     requires closed { IsClosed sig.now table.now state.now }
     requires sums { HasSums sig.now table.now }
-    requires heads { AreHeads sig.now table.now (class_of state.now) heads.now }
+    requires heads { TellHeads sig.now table.now state.now heads.now }
     ensures { IfOk result (IsInferred sig.now table.now state.now) }
 {
     let addition = addition_of(alloc, sig, table, state, heads, f)?;
@@ -125,14 +125,15 @@ pub fn infer(
     table: &Table,
     state: &State,
     reading: &Reading,
+    heads: &[Option<OpId>],
 ) -> Result<Inferred, NoMemory>
     requires closed { IsClosed sig.now table.now state.now }
     requires sums { HasSums sig.now table.now }
     requires reading { IsReading sig.now table.now (class_of state.now) reading.now }
+    requires heads { TellHeads sig.now table.now state.now heads.now }
     ensures { IfOk result (IsInferred sig.now table.now state.now) }
 {
     table.recall_well_made();
-    let heads = reading.heads.as_slice();
     let mut asked = Inferred::Nothing;
     for sums in reading.sums.as_slice() {
         let told = infer_of(alloc, sig, table, state, heads, sums.operator)?;

@@ -6,8 +6,12 @@ mod bounds;
 mod cancelling;
 mod differing;
 mod expressions;
+mod heads;
 mod inferring;
+mod meeting;
 mod rows;
 mod rules;
 
+pub use differing::differ;
+pub use heads::heads_of_values;
 pub use inferring::{Inferred, infer};

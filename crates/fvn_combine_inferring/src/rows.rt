@@ -1,9 +1,9 @@
 //! Reduced rows.
-ghost use Rattle.std.specs.Prelude.{◌≡◌, ◌<◌, length, All, IfOk, IfSome};
+ghost use Rattle.std.specs.Prelude.{◌≡◌, ◌<◌, ◌∷◌, [], length, All, IfOk, IfSome};
 ghost use Rattle.fvn_combine_choices.specs.Tables.{HasSums};
 ghost use Rattle.fvn_combine_nodes.specs.States.{IsClosed};
 ghost use Rattle.fvn_combine_inferring.specs.Rows.{AreSides};
-ghost use Rattle.fvn_combine_inferring.specs.inner.Splits.{IsAddition, AreWithin, IsReduced};
+ghost use Rattle.fvn_combine_inferring.specs.inner.Splits.{IsAddition, AreWithin, IsSum, IsReduced};
 
 use crate::cancelling::{cancel, without};
 use crate::expressions::{Addition, expression, split_at};
@@ -17,6 +17,24 @@ use std::alloc::Global;
 pub struct Row {
     pub left: Vec<usize>,
     pub right: Vec<usize>,
+}
+
+// The classes that two classes add, as sums of classes that have no split.
+fn sum_of(
+    alloc: Global,
+    splits: &[Option<(usize, usize)>],
+    a: usize,
+    b: usize,
+) -> Result<Vec<usize>, NoMemory>
+    requires splits { AreWithin splits.now }
+    requires first { a < length splits.now }
+    requires second { b < length splits.now }
+    ensures { IfOk result (λ v. IsSum splits.now a b v.items) }
+{
+    let mut list = expression(alloc, splits, a)?;
+    let second = expression(alloc, splits, b)?;
+    list.extend_from_slice(second.as_slice())?;
+    Ok(list)
 }
 
 // What is left of the equation of class k with the sum of a and b.
@@ -34,14 +52,40 @@ fn reduced(
     requires second { b < length splits.now }
     ensures { IfOk result (IsReduced splits.now unit k a b) }
 {
-    let mut added = expression(alloc, splits, a)?;
-    let second = expression(alloc, splits, b)?;
-    added.extend_from_slice(second.as_slice())?;
+    let mut added = sum_of(alloc, splits, a, b)?;
     let whole = expression(alloc, splits, k)?;
     let rest = cancel(alloc, &mut added, whole.as_slice())?;
     let left = without(alloc, added.as_slice(), unit)?;
     let right = without(alloc, rest.as_slice(), unit)?;
     Ok(Row { left, right })
+}
+
+// The classes that node i adds, where it is a sum.
+pub(crate) fn added(
+    alloc: Global,
+    sig: &Signature,
+    table: &Table,
+    state: &State,
+    addition: &Addition,
+    i: usize,
+) -> Result<Option<Vec<usize>>, NoMemory>
+    requires closed { IsClosed sig.now table.now state.now }
+    requires sums { HasSums sig.now table.now }
+    requires addition { IsAddition sig.now table.now state.now addition.now }
+    requires within { i < length table.now.nodes }
+    ensures sides { IfOk result (λ o. IfSome o (λ v.
+        AreSides sig.now table.now state.now addition.now.operator (i ∷ []) v.items)) }
+    ensures within { IfOk result (λ o. IfSome o (λ v. All (λ k. k < length table.now.nodes) v.items)) }
+{
+    table.recall_well_made();
+    let _sig = sig;
+    match split_at(table, state, addition.operator, i) {
+        None => Ok(None),
+        Some(p) => {
+            let list = sum_of(alloc, addition.splits.as_slice(), p.0, p.1)?;
+            Ok(Some(list))
+        }
+    }
 }
 
 // The reduced row of node i, where it is a sum.

@@ -1,54 +1,18 @@
 //! What a reduced row says of its classes.
 ghost use Rattle.std.specs.Prelude.{◌≡◌, ◌↔◌, ◌<◌, [], length, All, IfSome, IsTrue};
 ghost use Rattle.fvn_combine_choices.specs.Tables.{HasSums};
-ghost use Rattle.fvn_combine_leaves.specs.Readings.{AreHeads};
-ghost use Rattle.fvn_combine_nodes.specs.States.{IsClosed, class_of};
-ghost use Rattle.fvn_combine_inferring.specs.Inferred.{HaveOneValue, IsInferred};
+ghost use Rattle.fvn_combine_nodes.specs.States.{IsClosed};
+ghost use Rattle.fvn_combine_inferring.specs.Inferred.{TellHeads, IsInferred};
 ghost use Rattle.fvn_combine_inferring.specs.Rows.{AreSides};
 
 use crate::bags::bagged;
 use crate::bounds::{are_summands, count_summands};
 use crate::expressions::unit_of;
 use crate::inferring::Inferred;
+use crate::meeting::{all_met, met};
 use fvn_combine_nodes::{State, Table, has_no_identity};
 use fvn_signature::Signature;
 use fvn_terms::OpId;
-
-// What is said of two nodes whose classes have one value.
-fn met(sig: &Signature, table: &Table, state: &State, i: usize, j: usize) -> Inferred
-    requires closed { IsClosed sig.now table.now state.now }
-    requires left { i < length table.now.nodes }
-    requires right { j < length table.now.nodes }
-    requires equal { HaveOneValue sig.now table.now state.now i j }
-    ensures { IsInferred sig.now table.now state.now result }
-{
-    let _sig = sig;
-    let _table = table;
-    if state.is_same(i, j) {
-        return Inferred::Nothing;
-    }
-    if state.is_open(i, j) {
-        return Inferred::Together(i, j);
-    }
-    Inferred::Impossible
-}
-
-// What is said of nodes whose classes all have the value of that of node n.
-fn all_met(sig: &Signature, table: &Table, state: &State, list: &[usize], n: usize) -> Inferred
-    requires closed { IsClosed sig.now table.now state.now }
-    requires within { All (λ k. k < length table.now.nodes) list.now }
-    requires right { n < length table.now.nodes }
-    requires equal { All (λ k. HaveOneValue sig.now table.now state.now k n) list.now }
-    ensures { IsInferred sig.now table.now state.now result }
-{
-    for k in list {
-        let told = met(sig, table, state, *k, n);
-        if told.is_something() {
-            return told;
-        }
-    }
-    Inferred::Nothing
-}
 
 // Whether the list has no classes.
 fn has_none(list: &[usize]) -> bool
@@ -159,7 +123,7 @@ fn counted(
 ) -> Inferred
     requires closed { IsClosed sig.now table.now state.now }
     requires sums { HasSums sig.now table.now }
-    requires heads { AreHeads sig.now table.now (class_of state.now) heads.now }
+    requires heads { TellHeads sig.now table.now state.now heads.now }
     requires left { All (λ k. k < length table.now.nodes) first.now }
     requires right { All (λ k. k < length table.now.nodes) second.now }
     requires sides { AreSides sig.now table.now state.now f first.now second.now }
@@ -212,7 +176,7 @@ fn both_bagged(
 ) -> Inferred
     requires closed { IsClosed sig.now table.now state.now }
     requires sums { HasSums sig.now table.now }
-    requires heads { AreHeads sig.now table.now (class_of state.now) heads.now }
+    requires heads { TellHeads sig.now table.now state.now heads.now }
     requires left { All (λ k. k < length table.now.nodes) left.now }
     requires right { All (λ k. k < length table.now.nodes) right.now }
     requires sides { AreSides sig.now table.now state.now f left.now right.now }
@@ -237,7 +201,7 @@ pub(crate) fn rule(
 ) -> Inferred
     requires closed { IsClosed sig.now table.now state.now }
     requires sums { HasSums sig.now table.now }
-    requires heads { AreHeads sig.now table.now (class_of state.now) heads.now }
+    requires heads { TellHeads sig.now table.now state.now heads.now }
     requires left { All (λ k. k < length table.now.nodes) left.now }
     requires right { All (λ k. k < length table.now.nodes) right.now }
     requires sides { AreSides sig.now table.now state.now f left.now right.now }

@@ -12,7 +12,7 @@ use Rattle.fvn_combine_nodes.specs.Table.{NodeTable}
 use Rattle.fvn_combine_nodes.specs.Classes.{IsNodePartition}
 use Rattle.fvn_combine_nodes.specs.States.{Admits, IsClosed, open_pairs}
 use Rattle.fvn_combine_nodes.specs.Questions.{IsStart, IsAnswer, AreAnswers}
-use Rattle.fvn_combine_nodes.specs.Trees.{weight, IsToCome, AreClosed, IsAsked}
+use Rattle.fvn_combine_nodes.specs.Trees.{weight, IsToCome, AreClosed, IsAsked, IsTakenOn}
 use Rattle.fvn_combine_nodes.specs.declared.state.State.{State}
 use Rattle.fvn_combine_nodes.specs.declared.asking.Answers.{Answers}
 use Rattle.fvn_combine_nodes.specs.inner.Starts.{listed}
@@ -192,4 +192,47 @@ module _ (d : Declarations) (t : NodeTable) where
           let e = ap weight after_is ∙ sum_by-append (λ r. 3 ^ open_pairs r) below (listed a) in
           let f = ap weight was ∙ weight_push below top in
           let g = answers_fall in
+          omega arith
+
+  -- the top made way for what is left where a fact holds
+  module _ (top : State) (Holds : (ℕ → ℕ) → Type 0) (r : Option State) (answer : IsAnswer d t top Holds r) where
+    left_weight : weight (option_to_list r) < 3 ^ open_pairs top
+    left_weight = go r answer
+      where
+        go : (r : Option State) → IsAnswer d t top Holds r → weight (option_to_list r) < 3 ^ open_pairs top
+        go None x = let p : 1 ≤ 3 ^ open_pairs top = one-le-pow (open_pairs top) 3 (omega arith) in let z : weight [] ≡ 0 = refl in omega arith
+        go (Some s) x =
+            let e = weight_push [] s in
+            let z : weight [] ≡ 0 = refl in
+            let f = powers_fall (open_pairs s) (open_pairs s) (open_pairs top) x.falls x.falls in
+            let p : 1 ≤ 3 ^ open_pairs s = one-le-pow (open_pairs s) 3 (omega arith) in
+            omega arith
+
+    module _ (before after below : List State) (was : before ≡ below ++ top ∷ []) (is : after ≡ take (length before - 1) before ++ option_to_list r) where
+      taken_on_below : take (length before - 1) before ≡ below
+      taken_on_below = ap (λ l. take (length l - 1) l) was ∙ take_at below (top ∷ []) (length (below ++ top ∷ []) - 1) (let n = length_push below top in omega arith)
+
+      taken_on_after : after ≡ below ++ option_to_list r
+      taken_on_after = is ∙ ap (λ l. l ++ option_to_list r) taken_on_below
+
+      pub taken_on_is : IsTakenOn d t Holds before after
+      taken_on_is = record {
+        below = below;
+        top = top;
+        left = option_to_list r;
+        was = was;
+        is = taken_on_after;
+        kept = λ class h. (left_kept top Holds r answer class h).0;
+        all = λ class partition h e. left_all top Holds r answer class partition h e;
+      }
+
+      pub taken_on_closed : AreClosed d t before → AreClosed d t after
+      taken_on_closed h =
+          subst (All (IsClosed d t)) (sym taken_on_after) (All-append (IsClosed d t) below (option_to_list r) (subst (All (IsClosed d t)) taken_on_below (All-take (IsClosed d t) (length before - 1) before h)) (left_closed top Holds r answer))
+
+      pub taken_on_falls : weight after < weight before
+      taken_on_falls =
+          let e = ap weight taken_on_after ∙ sum_by-append (λ r. 3 ^ open_pairs r) below (option_to_list r) in
+          let f = ap weight was ∙ weight_push below top in
+          let g = left_weight in
           omega arith

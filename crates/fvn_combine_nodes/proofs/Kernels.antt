@@ -118,10 +118,10 @@ module _ (d : Declarations) (f : OpId) where
 
 -- classes and values
 module _ (d : Declarations) (s : Substitution) (nodes : List Node) where
-  same_class : (i j : ℕ) → value_at d s nodes i ≡ value_at d s nodes j → kernel d s nodes i ≡ kernel d s nodes j
+  pub same_class : (i j : ℕ) → value_at d s nodes i ≡ value_at d s nodes j → kernel d s nodes i ≡ kernel d s nodes j
   same_class i j e = first_same (value_at d s nodes) i j e
 
-  same_value : (i j : ℕ) → kernel d s nodes i ≡ kernel d s nodes j → value_at d s nodes i ≡ value_at d s nodes j
+  pub same_value : (i j : ℕ) → kernel d s nodes i ≡ kernel d s nodes j → value_at d s nodes i ≡ value_at d s nodes j
   same_value i j e = first_tells (value_at d s nodes) i j e
 
   together_values : (ks ls : List ℕ) → AreTogether (kernel d s nodes) ks ls → map (value_at d s nodes) ks ≡ map (value_at d s nodes) ls

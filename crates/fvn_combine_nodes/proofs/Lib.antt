@@ -22,7 +22,7 @@ pub mod Powers
 mod Growing
 mod Swapping
 pub mod Heading
-mod Kernels
+pub mod Kernels
 mod Flatness
 pub mod NodesOf
 mod Places

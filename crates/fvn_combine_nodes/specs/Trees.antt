@@ -37,3 +37,15 @@ pub record IsAsked (d : Declarations) (t : NodeTable) (before after : List State
   -- each partition that the last state admits is admitted by one answer, and by one alone
   pub all : (class : ℕ → ℕ) → IsNodePartition d t class → Admits top class → IsToCome answers class
   pub one : (class : ℕ → ℕ) → AllPairs (λ s r. Admits s class → Admits r class → ⊥) answers
+
+-- the last state made way for what is left of it where a fact holds of the classes; the others stay
+pub record IsTakenOn (d : Declarations) (t : NodeTable) (Holds : (ℕ → ℕ) → Type 0) (before after : List State) : Type 0 where
+  pub below : List State
+  pub top : State
+  pub left : List State
+  pub was : before ≡ below ++ top ∷ []
+  pub is : after ≡ below ++ left
+  -- what is left has what the last state had
+  pub kept : (class : ℕ → ℕ) → IsToCome left class → Admits top class
+  -- each partition that the last state admits is admitted by it, where the fact holds
+  pub all : (class : ℕ → ℕ) → IsNodePartition d t class → Admits top class → Holds class → IsToCome left class

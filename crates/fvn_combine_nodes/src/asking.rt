@@ -73,8 +73,8 @@ fn opened(alloc: Global, state: &State) -> Result<Closing, NoMemory>
     Ok(Closing { names, apart })
 }
 
-// What is left where the nodes are in one class.
-fn ask_same(
+/// What is left where the nodes are in one class.
+pub(crate) fn ask_same(
     alloc: Global,
     sig: &Signature,
     table: &Table,
@@ -96,8 +96,8 @@ fn ask_same(
     Ok(left)
 }
 
-// What is left where the nodes are kept apart.
-fn ask_apart(
+/// What is left where the nodes are kept apart.
+pub(crate) fn ask_apart(
     alloc: Global,
     sig: &Signature,
     table: &Table,

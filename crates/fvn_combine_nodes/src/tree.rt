@@ -1,10 +1,10 @@
 //! Decision trees over the nodes of a table.
-ghost use Rattle.std.specs.Prelude.{◌≡◌, ℕ, ◌-◌, ◌<◌, List, [], ◌∷◌, ◌++◌, take, length, IfOk, OnOk, OnErr, IfSome, MatchOption};
+ghost use Rattle.std.specs.Prelude.{◌≡◌, ◌≢◌, ℕ, ◌-◌, ◌<◌, List, [], ◌∷◌, ◌++◌, take, length, IfOk, OnOk, OnErr, IfSome, MatchOption};
 ghost use Rattle.fvn_combine_nodes.specs.Classes.{IsNodePartition};
-ghost use Rattle.fvn_combine_nodes.specs.Trees.{weight, IsToCome, AreClosed, IsOpenAtTop, IsAsked};
+ghost use Rattle.fvn_combine_nodes.specs.Trees.{weight, IsToCome, AreClosed, IsOpenAtTop, IsAsked, IsTakenOn};
 ghost use Rattle.fvn_combine_nodes.specs.inner.Starts.{listed};
 
-use crate::asking::{Answers, ask, start};
+use crate::asking::{Answers, ask, ask_apart, ask_same, start};
 use crate::state::State;
 use crate::table::Table;
 use fvn_signature::Signature;
@@ -136,6 +136,60 @@ impl Tree {
             None => return Ok(()),
         };
         replace_top(&mut self.states, answers)?;
+        Ok(())
+    }
+
+    /// Puts in place of the top what is left of it where nodes i and j are in one class; where they are
+    /// apart nothing is to come any more.
+    pub fn meet(
+        &mut self,
+        alloc: Global,
+        sig: &Signature,
+        table: &Table,
+        i: usize,
+        j: usize,
+    ) -> Result<(), NoMemory>
+        requires closed { AreClosed sig.now table.now self.old }
+        requires left { i < length table.now.nodes }
+        requires right { j < length table.now.nodes }
+        requires open { IsOpenAtTop self.old i j }
+        ensures met { OnOk result (IsTakenOn sig.now table.now (λ class. class i ≡ class j) self.old self.new) }
+        ensures closed { AreClosed sig.now table.now self.new }
+        ensures falls { OnOk result (weight self.new < weight self.old) }
+        ensures no_memory { OnErr result (self.new ≡ self.old) }
+    {
+        let same = match self.states.as_slice().last() {
+            Some(top) => ask_same(alloc, sig, table, top, i, j)?,
+            None => return Ok(()),
+        };
+        replace_top(&mut self.states, Answers { same, apart: None })?;
+        Ok(())
+    }
+
+    /// Puts in place of the top what is left of it where nodes i and j are kept apart; where they are in
+    /// one class nothing is to come any more.
+    pub fn part(
+        &mut self,
+        alloc: Global,
+        sig: &Signature,
+        table: &Table,
+        i: usize,
+        j: usize,
+    ) -> Result<(), NoMemory>
+        requires closed { AreClosed sig.now table.now self.old }
+        requires left { i < length table.now.nodes }
+        requires right { j < length table.now.nodes }
+        requires open { IsOpenAtTop self.old i j }
+        ensures parted { OnOk result (IsTakenOn sig.now table.now (λ class. class i ≢ class j) self.old self.new) }
+        ensures closed { AreClosed sig.now table.now self.new }
+        ensures falls { OnOk result (weight self.new < weight self.old) }
+        ensures no_memory { OnErr result (self.new ≡ self.old) }
+    {
+        let apart = match self.states.as_slice().last() {
+            Some(top) => ask_apart(alloc, sig, table, top, i, j)?,
+            None => return Ok(()),
+        };
+        replace_top(&mut self.states, Answers { same: None, apart })?;
         Ok(())
     }
 }

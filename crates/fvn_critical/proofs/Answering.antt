@@ -12,14 +12,16 @@ use Rattle.fvn_terms.specs.Rewriting.{IsConfluent}
 use Rattle.fvn_forms.specs.Flat.{plain}
 use Rattle.fvn_forms.specs.Good.{IsGood}
 use Rattle.fvn_signature.specs.Queries.{IsCompleted}
+use Rattle.fvn_rewrite_laws.specs.Laws.{RuleLaws}
 use Rattle.fvn_rewrite_laws.specs.Losses.{IsLoss, AreSortDecreasing, IsFirstLoss}
 use Rattle.fvn_rewrite.specs.Usable.{Rewriting, AreUsable, equations_by}
 use Rattle.fvn_critical_pairs.specs.Laws.{OverlapsOfRulesDecideConfluence, DivergenceExcludesConfluence}
 use Rattle.fvn_critical.specs.declared.fault.CriticalFault.{CriticalFault}
 use Rattle.fvn_critical.specs.declared.fault.CriticalFault.TheVariants.{Sorts, Apart, Steps, Size, Basis, Unifiers}
 use Rattle.fvn_critical.specs.Faults.{IsCriticalFault, IsAnswer, TellsFirstLoss, MeetsLimit, IsOnlyLimited}
-use Rattle.fvn_critical.specs.inner.Testing.{TestedAs, Each, IsJoinedBy}
+use Rattle.fvn_critical.specs.inner.Testing.{TestedAs, AreJoinedBySome}
 use Rattle.fvn_critical.proofs.Forms.{used_by}
+use Rattle.fvn_critical.proofs.Assembling.{all_joined}
 
 module _ (d : Declarations) where
   -- an equation that loses a sort is not sort-decreasing
@@ -47,13 +49,13 @@ module _ (r : Rewriting) (drawn : Problem → Substitution → Type 0) (unifiers
   equations = equations_by r
 
   -- where no equation loses a sort, the tests decide
-  pub tested_answer : IsGood r.signature → IsCompleted r.signature → AreUsable r.signature r.rules → OverlapsOfRulesDecideConfluence → AreSortDecreasing r.signature equations →
-      (f : Option CriticalFault) → TestedAs r drawn unifiers (Each (IsJoinedBy r) r.rules.rules) f → IsAnswer r drawn unifiers f
-  tested_answer good completed usable decide decreasing None all = record {
+  pub tested_answer : IsGood r.signature → IsCompleted r.signature → AreUsable r.signature r.rules → RuleLaws r.signature equations → OverlapsOfRulesDecideConfluence → AreSortDecreasing r.signature equations →
+      (f : Option CriticalFault) → TestedAs r drawn unifiers (AreJoinedBySome r) f → IsAnswer r drawn unifiers f
+  tested_answer good completed usable rules decide decreasing None all = record {
     decreasing = decreasing;
-    confluent = λ ends. decide r.signature r.rules (used_by r good completed usable) decreasing all ends;
+    confluent = λ ends. decide r.signature r.rules (used_by r good completed usable) decreasing all.chosen all.enough (all_joined r good completed usable rules all) ends;
   }
-  tested_answer good completed usable decide decreasing (Some f) shown = shown
+  tested_answer good completed usable rules decide decreasing (Some f) shown = shown
 
   pub tells_none : AreSortDecreasing r.signature equations → (f : Option CriticalFault) → TellsFirstLoss r f
   tells_none decreasing f n loss = absurd (no_first_loss r.signature equations decreasing n loss)

@@ -1,7 +1,8 @@
 -- What is tested, one after another.
-use Rattle.std.proofs.Common.{◌≡◌, ◌⊎◌, ◌+◌, ◌≤◌, ◌<◌, ℕ, List, [], ◌∷◌, ◌++◌, take, length, get_or, Some, None, inl, inr, refl, sym, ap, ◌∙◌, subst}
-use Rattle.std.specs.Prelude.{Option, All, Contains}
-use Rattle.std.proofs.lemmas.List.{take_more, take_all}
+use Rattle.std.proofs.Common.{◌≡◌, ◌⊎◌, ◌+◌, ◌≤◌, ◌<◌, ℕ, List, [], ◌∷◌, ◌++◌, take, drop, length, get_or, Some, None, inl, inr, refl, sym, ap, ◌∙◌, subst, arith}
+use Rattle.std.specs.Prelude.{Option, All, Contains, slice_get}
+use Rattle.std.proofs.lemmas.Bool.{cases_lt}
+use Rattle.std.proofs.lemmas.List.{take_more, take_all, get_or-drop, length-drop}
 use Rattle.std.proofs.lemmas.List.Elements.{All-nil, All-cons, All-append, Contains-append_cases}
 use Rattle.fvn_base.proofs.Membership.{contains_cases, contains_none}
 use Rattle.fvn_terms.specs.declared.plain.OpId.{OpId}
@@ -16,7 +17,8 @@ use Rattle.fvn_places.proofs.PathFacts.{leads_once}
 use Rattle.fvn_critical_pairs.specs.Overlaps.{Overlap, IsOverlapWith, Joins}
 use Rattle.fvn_critical.specs.declared.fault.CriticalFault.{CriticalFault}
 use Rattle.fvn_critical.specs.Faults.{IsCriticalFault}
-use Rattle.fvn_critical.specs.inner.Testing.{TestedAs, Each, JoinWith, JoinAt}
+use Rattle.fvn_critical.specs.inner.Choosing.{AreAmong}
+use Rattle.fvn_critical.specs.inner.Testing.{TestedAs, Each, JoinWith, JoinAt, inner_rules, IsJoinedAlong, AreJoinedUpTo}
 
 module _ {A : Type 0} (P : A → Type 0) where
   pub each_none : Each P []
@@ -71,11 +73,11 @@ module _ (r : Rewriting) (outer : Rule) (path : List ℕ) where
   leads_there o same there h = subst (λ p. LeadsTo p outer.left o.at) there (subst (λ (z : Rule). LeadsTo o.path z.left o.at) same h.leads)
 
   -- no form stands there, or one without a head
-  pub nowhere : ((at : FlatTerm) → LeadsTo path outer.left at → ⊥) → JoinAt r outer path
-  nowhere n o same there h = absurd (n o.at (leads_there o same there h))
+  pub nowhere : (chosen : List Rule) → ((at : FlatTerm) → LeadsTo path outer.left at → ⊥) → JoinAt r chosen outer path
+  nowhere chosen n o same there h i = absurd (n o.at (leads_there o same there h))
 
-  pub headless : (at : FlatTerm) → LeadsTo path outer.left at → head_of at ≡ None → JoinAt r outer path
-  headless at leads e o same there h =
+  pub headless : (chosen : List Rule) → (at : FlatTerm) → LeadsTo path outer.left at → head_of at ≡ None → JoinAt r chosen outer path
+  headless chosen at leads e o same there h i =
       let is : o.at ≡ at = leads_once path outer.left o.at at (leads_there o same there h) leads in
       let q : Some h.operator ≡ None = sym h.heads ∙ ap head_of is ∙ e in cc
 
@@ -97,5 +99,31 @@ module _ (r : Rewriting) (outer : Rule) (path : List ℕ) where
         let whole : o ≡ record { outer = outer; path = path; at = at; inner = inner } = λ i. record { outer = same i; path = there i; at = is i; inner = this i } in
         subst (Joins r.signature (equations_by r)) (sym whole) j
 
-  pub with_all : Each (JoinWith r outer path) r.rules.rules → JoinAt r outer path
-  with_all h o same there k = h o.inner k.given o same there refl k
+  pub with_all : (chosen : List Rule) → Each (JoinWith r outer path) chosen → JoinAt r chosen outer path
+  with_all chosen h o same there k i = h o.inner i o same there refl k
+
+-- the inner rules at a path are chosen ones
+pub inner_among : (chosen later rules : List Rule) → AreAmong chosen rules → AreAmong later chosen → (path : List ℕ) → AreAmong (inner_rules chosen later path) rules
+inner_among chosen later rules all some [] rule c = all rule (some rule c)
+inner_among chosen later rules all some (i ∷ path) rule c = all rule c
+
+-- one rule more
+module _ (r : Rewriting) (chosen : List Rule) where
+  pub none_joined : AreJoinedUpTo r chosen 0
+  none_joined i rule few at = absurd (omega (arith, few))
+
+  pub joined_more : (n : ℕ) (rule : Rule) → slice_get chosen n ≡ Some rule → AreJoinedUpTo r chosen n → IsJoinedAlong r chosen (drop n chosen) rule → AreJoinedUpTo r chosen (n + 1)
+  joined_more n rule here before joined i other few at = go (cases_lt i n)
+    where
+      go : (i < n) ⊎ (n ≤ i) → IsJoinedAlong r chosen (drop i chosen) other
+      go (inl l) = before i other l at
+      go (inr h) =
+          let e : n ≡ i = omega (arith, few, h) in
+          let q : Some rule ≡ Some other = sym here ∙ ap (slice_get chosen) e ∙ at in
+          let same : rule ≡ other = cc in
+          subst (IsJoinedAlong r chosen (drop i chosen)) same (subst (λ k. IsJoinedAlong r chosen (drop k chosen) rule) e joined)
+
+  pub behind_chosen : (i : ℕ) → AreAmong (drop i chosen) chosen
+  behind_chosen i rule (k, within, e) =
+      let few = length-drop i chosen in
+      (i + k, omega (arith, within, few), sym (get_or-drop i chosen k rule) ∙ e)

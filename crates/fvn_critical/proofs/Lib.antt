@@ -7,3 +7,5 @@ mod Posed
 mod Joining
 mod Covering
 mod Answering
+mod Subsuming
+mod Assembling

@@ -5,6 +5,7 @@ use Rattle.fvn_terms.specs.declared.declarations.Declarations.{Declarations}
 use Rattle.fvn_terms.specs.Term.{Term}
 use Rattle.fvn_terms.specs.Substitution.{Substitution, apply}
 use Rattle.fvn_terms.specs.Places.{stop}
+use Rattle.fvn_terms.specs.Equality.{BEqual}
 use Rattle.fvn_terms.specs.Unifiers.{Problem}
 use Rattle.fvn_terms.specs.Theory.{Equations}
 use Rattle.fvn_terms.specs.Rewriting.{TermSequence}
@@ -92,6 +93,18 @@ module _ (r : Rewriting) (good : IsGood r.signature) (completed : IsCompleted r.
     right_steps = g.reached.count;
     left_reached = from_first left f;
     right_reached = from_second left g;
+    equal = stop;
+  }
+
+  -- two forms that are one
+  pub joins_at_once : first ≡ second → JoinsUnder d equations o c
+  joins_at_once e = record {
+    left = plain first;
+    right = plain first;
+    left_steps = 0;
+    right_steps = 0;
+    left_reached = BEqual-sym d (first_equal r good completed usable rules drawn next o is s u);
+    right_reached = BEqual-sym d (subst (λ w. BEqual d (plain w) (apply c (plain (inner_result o)))) (sym e) (second_equal r good completed usable rules drawn next o is s u whole put));
     equal = stop;
   }
 

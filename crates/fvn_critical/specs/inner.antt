@@ -2,3 +2,4 @@
 pub mod Ends
 pub mod Comparing
 pub mod Testing
+pub mod Choosing

@@ -1,8 +1,10 @@
 //! The test of confluence: the critical pairs of rules, found by any solver modulo the axioms.
 #![tactic(auto)]
 
+mod choosing;
 mod comparing;
 mod fault;
+mod heading;
 mod overlapping;
 mod pairing;
 mod posing;

@@ -27,7 +27,8 @@ pub(crate) struct Meeting<'m> {
     pub(crate) inner: &'m Rule,
 }
 
-// Whether what both rules make of the outer left side under a unifier has one normal form.
+// Whether what both rules make of the outer left side under a unifier has one normal form; forms that are one at once
+// are not rewritten.
 fn tried<A: AxiomSolver>(
     tester: &Tester<'_, A>,
     alloc: Global,
@@ -53,6 +54,10 @@ fn tried<A: AxiomSolver>(
     let sig = tester.rewriter.signature();
     let first = s.apply(alloc, sig, &meeting.outer.right)?;
     let second = s.apply(alloc, sig, whole)?;
+    let same = first.same(&second);
+    if same {
+        return Ok(None);
+    }
     let found = tester.rewriter.normal(&first)?;
     match found {
         Normal::Form(left) => {

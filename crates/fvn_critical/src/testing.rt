@@ -1,12 +1,15 @@
 //! The test of all overlaps.
-ghost use Rattle.std.specs.Prelude.{◌≡◌, All, Contains, IfOk};
+ghost use Rattle.std.specs.Prelude.{◌≡◌, length, All, Contains, IfOk};
 ghost use Rattle.fvn_places.specs.Paths.{paths};
 ghost use Rattle.fvn_theory.specs.Equations.{IsReadableEquation};
 ghost use Rattle.fvn_rewrite.specs.Usable.{AreUsable};
 ghost use Rattle.fvn_critical.specs.Faults.{rewriting_of, IsAnswer, TellsFirstLoss, IsOnlyLimited};
-ghost use Rattle.fvn_critical.specs.inner.Testing.{HeadsAs, IsNewRule, IsPartAt, TestedAs, Each, JoinWith, JoinAt, IsJoinedBy};
+ghost use Rattle.fvn_critical.specs.inner.Choosing.{AreAmong};
+ghost use Rattle.fvn_critical.specs.inner.Testing.{IsNewRule, IsPartAt, TestedAs, Each, JoinWith, inner_rules, IsJoinedAt, IsJoinedAlong, AreJoinedUpTo, AreJoinedBySome};
 
+use crate::choosing::chosen_rules;
 use crate::fault::CriticalFault;
+use crate::heading::heads;
 use crate::overlapping::overlap_fault;
 use crate::pairing::Meeting;
 use crate::renewing::{New, renewed};
@@ -29,16 +32,6 @@ pub(crate) struct Part<'p> {
     pub(crate) path: &'p [usize],
     pub(crate) at: &'p Flat,
     pub(crate) head: OpId,
-}
-
-// Whether the operator heads the term.
-fn heads(f: OpId, t: &Flat) -> bool
-    ensures { HeadsAs f t.now result }
-{
-    match t.head() {
-        Some(g) => f == g,
-        None => false,
-    }
 }
 
 // The overlap of a part with a rule, where the left side has its head.
@@ -80,7 +73,7 @@ fn fault_by<A: AxiomSolver>(
 ) -> Result<Option<CriticalFault>, NoMemory>
     requires outer { IsNewRule tester.now.rewriter new.now }
     requires part { IsPartAt new.now part.now }
-    requires inner { rules.now ≡ tester.now.rewriter.rules.rules }
+    requires inner { AreAmong rules.now tester.now.rewriter.rules.rules }
     ensures { IfOk result (TestedAs tester.now.rewriter (A.drawn tester.now.solver.now)
         (A.most_unifiers tester.now.solver.now)
         (Each (JoinWith tester.now.rewriter new.now.rule part.now.path.now) rules.now)) }
@@ -94,18 +87,31 @@ fn fault_by<A: AxiomSolver>(
     Ok(None)
 }
 
+// The inner rules of overlaps at a path.
+fn inner_at<'c>(chosen: &'c [Rule], later: &'c [Rule], path: &[usize]) -> &'c [Rule]
+    ensures { result.now ≡ inner_rules chosen.now later.now path.now }
+{
+    if path.is_empty() {
+        return later;
+    }
+    chosen
+}
+
 // The overlaps at the part to which a path leads.
 fn fault_at<A: AxiomSolver>(
     tester: &Tester<'_, A>,
     alloc: Global,
     new: &New,
+    later: &[Rule],
     path: &[usize],
 ) -> Result<Option<CriticalFault>, NoMemory>
     requires outer { IsNewRule tester.now.rewriter new.now }
+    requires chosen { AreAmong tester.now.chosen.now tester.now.rewriter.rules.rules }
+    requires later { AreAmong later.now tester.now.chosen.now }
     requires path { Contains (paths new.now.rule.left) path.now }
     ensures { IfOk result (TestedAs tester.now.rewriter (A.drawn tester.now.solver.now)
         (A.most_unifiers tester.now.solver.now)
-        (JoinAt tester.now.rewriter new.now.rule path.now)) }
+        (IsJoinedAt tester.now.rewriter tester.now.chosen.now later.now new.now.rule path.now)) }
 {
     let Some(at) = form_at(&new.rule.left, path) else {
         return Ok(None);
@@ -114,7 +120,8 @@ fn fault_at<A: AxiomSolver>(
         return Ok(None);
     };
     let part = Part { path, at, head };
-    let fault = fault_by(tester, alloc, new, &part, tester.rewriter.rules().rules())?;
+    let inner = inner_at(tester.chosen, later, path);
+    let fault = fault_by(tester, alloc, new, &part, inner)?;
     Ok(fault)
 }
 
@@ -123,16 +130,19 @@ fn fault_along<A: AxiomSolver>(
     tester: &Tester<'_, A>,
     alloc: Global,
     new: &New,
+    later: &[Rule],
     list: &[Seq<usize>],
 ) -> Result<Option<CriticalFault>, NoMemory>
     requires outer { IsNewRule tester.now.rewriter new.now }
+    requires chosen { AreAmong tester.now.chosen.now tester.now.rewriter.rules.rules }
+    requires later { AreAmong later.now tester.now.chosen.now }
     requires list { list.now ≡ paths new.now.rule.left }
     ensures { IfOk result (TestedAs tester.now.rewriter (A.drawn tester.now.solver.now)
         (A.most_unifiers tester.now.solver.now)
-        (Each (JoinAt tester.now.rewriter new.now.rule) list.now)) }
+        (Each (IsJoinedAt tester.now.rewriter tester.now.chosen.now later.now new.now.rule) list.now)) }
 {
     for path in list {
-        let fault = fault_at(tester, alloc, new, path.as_slice())?;
+        let fault = fault_at(tester, alloc, new, later, path.as_slice())?;
         if let Some(wrong) = fault {
             return Ok(Some(wrong));
         }
@@ -140,22 +150,26 @@ fn fault_along<A: AxiomSolver>(
     Ok(None)
 }
 
-// All overlaps in the left side of a rule, whose variables are renamed to new ones first.
+// All overlaps in the left side of a rule, whose variables are renamed to new ones first; where whole left sides overlap,
+// those with the later rules.
 fn fault_of<A: AxiomSolver>(
     tester: &Tester<'_, A>,
     alloc: Global,
     rule: &Rule,
+    later: &[Rule],
 ) -> Result<Option<CriticalFault>, NoMemory>
     requires rule { Contains tester.now.rewriter.rules.rules rule.now }
+    requires chosen { AreAmong tester.now.chosen.now tester.now.rewriter.rules.rules }
+    requires later { AreAmong later.now tester.now.chosen.now }
     ensures { IfOk result (TestedAs tester.now.rewriter (A.drawn tester.now.solver.now)
         (A.most_unifiers tester.now.solver.now)
-        (IsJoinedBy tester.now.rewriter rule.now)) }
+        (IsJoinedAlong tester.now.rewriter tester.now.chosen.now later.now rule.now)) }
 {
     tester.rewriter.recall();
     rules_are_lawful();
     let new = renewed(alloc, tester.rewriter.signature(), rule)?;
     let list = paths(alloc, &new.rule.left)?;
-    let fault = fault_along(tester, alloc, &new, list.as_slice())?;
+    let fault = fault_along(tester, alloc, &new, later, list.as_slice())?;
     Ok(fault)
 }
 
@@ -164,12 +178,14 @@ fn first_fault<A: AxiomSolver>(
     tester: &Tester<'_, A>,
     alloc: Global,
 ) -> Result<Option<CriticalFault>, NoMemory>
+    requires chosen { AreAmong tester.now.chosen.now tester.now.rewriter.rules.rules }
     ensures { IfOk result (TestedAs tester.now.rewriter (A.drawn tester.now.solver.now)
         (A.most_unifiers tester.now.solver.now)
-        (Each (IsJoinedBy tester.now.rewriter) tester.now.rewriter.rules.rules)) }
+        (AreJoinedUpTo tester.now.rewriter tester.now.chosen.now (length tester.now.chosen.now))) }
 {
-    for rule in tester.rewriter.rules().rules() {
-        let fault = fault_of(tester, alloc, rule)?;
+    let chosen = tester.chosen;
+    for i in 0..chosen.len() {
+        let fault = fault_of(tester, alloc, &chosen[i], &chosen[i..])?;
         if let Some(wrong) = fault {
             return Ok(Some(wrong));
         }
@@ -177,12 +193,36 @@ fn first_fault<A: AxiomSolver>(
     Ok(None)
 }
 
+// The overlaps of rules that subsume all, up to the first that shows a fault.
+fn fault_of_all<A: AxiomSolver>(
+    alloc: Global,
+    sig: &Signature,
+    rules: &Rules,
+    solver: &A,
+    bounds: Bounds,
+) -> Result<Option<CriticalFault>, NoMemory>
+    requires rules { AreUsable sig.now rules.now }
+    requires signature { A.signature solver.now ≡ sig.now }
+    requires size { A.most_symbols solver.now ≡ bounds.size }
+    ensures { IfOk result (TestedAs (rewriting_of sig.now rules.now bounds) (A.drawn solver.now)
+        (A.most_unifiers solver.now)
+        (AreJoinedBySome (rewriting_of sig.now rules.now bounds))) }
+{
+    sig.recall_good();
+    sig.recall_completed();
+    rules_are_lawful();
+    let chosen = chosen_rules(alloc, sig, rules.rules())?;
+    let tester = Tester::new(alloc, sig, rules, solver, bounds, chosen.as_slice());
+    let fault = first_fault(&tester, alloc)?;
+    Ok(fault)
+}
+
 /// Why it is not shown that the equations are confluent where they terminate; nothing where it is shown.
 ///
 /// First it is told which equation loses a sort. Then each rule's left side is unified with each part of each rule's
-/// left side that has its head, with the whole of it too, and a rule with itself too; and what both rules make of it is
-/// brought to normal form. All rules are taken, and not only those that are needed under a head: a rule whose left side
-/// is an instance of another's may have a right side that is none.
+/// left side that has its head, with the whole of it too, which is done once for two rules, and a rule with itself too;
+/// and what both rules make of it is brought to normal form. A rule is left out where both its sides are instances of those of another one by one
+/// substitution: that its left side is one is not enough.
 pub fn critical_fault<A: AxiomSolver>(
     alloc: Global,
     sig: &Signature,
@@ -204,14 +244,14 @@ pub fn critical_fault<A: AxiomSolver>(
 {
     sig.recall_good();
     sig.recall_completed();
+    rules_are_lawful();
     overlaps_of_rules_decide_confluence();
     divergence_excludes_confluence();
     let loss = sort_loss(alloc, sig, rules.equations())?;
     match loss {
         Some(n) => Ok(Some(CriticalFault::Sorts(n))),
         None => {
-            let tester = Tester::new(alloc, sig, rules, solver, bounds);
-            let fault = first_fault(&tester, alloc)?;
+            let fault = fault_of_all(alloc, sig, rules, solver, bounds)?;
             Ok(fault)
         }
     }

@@ -100,3 +100,8 @@ module _ (d : Declarations) where
 
     pub renamed_head : (f : OpId) (t : FlatTerm) → Settled d t → head_of t ≡ Some f → head_of (renamed_form d by t) ≡ Some f
     renamed_head f t h e = ap head_of (eval_apply d fvar (λ x. var (by x)) (plain t)) ∙ instance_head f t h e
+
+    -- and has none where the form has none
+    pub head_before : (f : OpId) (t : FlatTerm) → Settled d t → head_of (renamed_form d by t) ≡ Some f → head_of t ≡ Some f
+    head_before f (fvar x) h e = let q : None ≡ Some f = e in cc
+    head_before f (fapp g joined ts) h e = sym (renamed_head g (fapp g joined ts) h refl) ∙ e

@@ -1,21 +1,30 @@
--- Instances of rules are instances of the rules with renamed variables.
+-- Instances of rules are instances of the rules with renamed variables, and of rules that subsume them.
 use Rattle.std.proofs.Common.{◌≡◌, ◌⊎◌, zero, suc, [], ◌∷◌, inl, inr, sym, ap, ◌∙◌, subst, arith}
 use Rattle.std.specs.Prelude.{Any}
+use Rattle.fvn_base.specs.Decided.{Decided}
 use Rattle.fvn_base.proofs.Membership.{contains_none}
 use Rattle.fvn_terms.specs.declared.plain.Var.{Var}
 use Rattle.fvn_terms.specs.declared.declarations.Declarations.{Declarations}
 use Rattle.fvn_terms.specs.Term.{var}
-use Rattle.fvn_terms.specs.Substitution.{Substitution, Occurs}
-use Rattle.fvn_terms.proofs.Equal.{BEqual-sym, BEqual-trans}
+use Rattle.fvn_terms.specs.Signature.{IsTerm}
+use Rattle.fvn_terms.specs.Substitution.{Substitution, apply, followed_by, Occurs}
+use Rattle.fvn_terms.specs.Equality.{BEqual}
+use Rattle.fvn_terms.proofs.Equal.{BEqual-apply, BEqual-sym, BEqual-trans}
+use Rattle.fvn_terms.proofs.Substitutions.{apply-apply}
+use Rattle.fvn_terms.proofs.WellSorted.{IsWellSorted-followed_by}
 use Rattle.fvn_terms.specs.Sorts.{IsWellSorted}
 use Rattle.fvn_terms.specs.Theory.{Equations}
 use Rattle.fvn_forms.specs.Flat.{FlatTerm, plain}
 use Rattle.fvn_forms.specs.Good.{IsGood}
-use Rattle.fvn_flat.specs.Drawn.{Renaming}
+use Rattle.fvn_flat.specs.Drawn.{Renaming, renamed}
 use Rattle.fvn_flat.specs.Fits.{Fits}
 use Rattle.fvn_flat.specs.Successors.{Narrowed, IsRenaming, renamed_form, OccursIn}
+use Rattle.fvn_rewrite_rules.specs.declared.rule.Rule.{Rule}
 use Rattle.fvn_rewrite_peaks.specs.Peaks.{IsInstanceOfForms}
+use Rattle.fvn_lifting.proofs.Chosen.{occurs_or_not, either_or}
+use Rattle.fvn_lifting.proofs.Renamed.{renaming_among, renaming_among_sorted, renaming_among_is, renamed_form_equal}
 use Rattle.fvn_lifting.specs.Laws.{RenamedFormsHaveTheSameInstances}
+use Rattle.fvn_critical_pairs.specs.Overlaps.{Subsumes}
 
 module _ (d : Declarations) (equations : Equations) (good : IsGood d) (same : RenamedFormsHaveTheSameInstances) where
   -- two forms, and nothing besides
@@ -55,3 +64,38 @@ module _ (d : Declarations) (equations : Equations) (good : IsGood d) (same : Re
     left_is = BEqual-trans d second.left_is first.left_is;
     right_is = BEqual-trans d second.right_is first.right_is;
   }
+
+  -- each instance of a rule is one of a rule that subsumes it
+  pub special_instance : (general special : Rule) → Subsumes d general special → (s : Substitution) → IsWellSorted d s → IsInstanceOfForms d equations general.left general.right special.left special.right s
+  special_instance general special h s sorted = record {
+    by = followed_by h.by s;
+    well_sorted = IsWellSorted-followed_by d h.by s h.well_sorted sorted;
+    left_is = subst (λ t. BEqual d t (apply s (plain special.left))) (apply-apply h.by s (plain general.left)) (BEqual-apply d s sorted.0 h.left);
+    right_is = subst (λ t. BEqual d t (apply s (plain special.right))) (apply-apply h.by s (plain general.right)) (BEqual-apply d s sorted.0 h.right);
+  }
+
+  -- each instance of a rule with renamed variables is one of the rule
+  module _ (l r : FlatTerm) (l_kind : IsTerm d (plain l)) (r_kind : IsTerm d (plain r)) (by : Renaming) (renames : IsRenaming (λ x. Occurs x (plain l) ⊎ Occurs x (plain r)) by) where
+    abbrev Among : Var → Type 0
+    Among x = Occurs x (plain l) ⊎ Occurs x (plain r)
+
+    among_or_not : (x : Var) → Decided (Among x)
+    among_or_not x = either_or (occurs_or_not x (plain l)) (occurs_or_not x (plain r))
+
+    abbrev names : Substitution
+    names = renaming_among d Among among_or_not by renames
+
+    pub instance_before : (new_left new_right : FlatTerm) → new_left ≡ renamed_form d by l → new_right ≡ renamed_form d by r → (s : Substitution) → IsWellSorted d s → IsInstanceOfForms d equations l r new_left new_right s
+    instance_before new_left new_right left_is right_is s sorted = record {
+      by = followed_by names s;
+      well_sorted = IsWellSorted-followed_by d names s (renaming_among_sorted d Among among_or_not by renames) sorted;
+      left_is = side l l_kind (λ x o. inl o) new_left left_is;
+      right_is = side r r_kind (λ x o. inr o) new_right right_is;
+    }
+      where
+        side : (t : FlatTerm) → IsTerm d (plain t) → ((x : Var) → Occurs x (plain t) → Among x) → (new : FlatTerm) → new ≡ renamed_form d by t → BEqual d (apply (followed_by names s) (plain t)) (apply s (plain new))
+        side t h within new is =
+            let same_term : apply s (renamed by (plain t)) ≡ apply (followed_by names s) (plain t) =
+            ap (apply s) (sym (renaming_among_is d Among among_or_not by renames (plain t) within)) ∙ apply-apply names s (plain t) in
+            subst (λ a. BEqual d a (apply s (plain new))) same_term
+            (BEqual-apply d s sorted.0 (subst (λ w. BEqual d (renamed by (plain t)) (plain w)) (sym is) (renamed_form_equal d Among among_or_not by renames good t h.0 h.1 within)))

@@ -1,5 +1,5 @@
 -- Lemmas of critical pairs; the public ones are for callers.
-mod Heads
+pub mod Heads
 mod Single
 pub mod GivenRules
 pub mod RenewedRules

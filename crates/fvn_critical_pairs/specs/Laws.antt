@@ -15,25 +15,28 @@ use Rattle.fvn_rewrite_rules.specs.Given.{RuleLists}
 use Rattle.fvn_rewrite_peaks.specs.Peaks.{StepsJoin}
 use Rattle.fvn_lifting.specs.Meetings.{IsOverNew}
 use Rattle.fvn_lifting.specs.Laws.{AreUsed}
-use Rattle.fvn_critical_pairs.specs.Overlaps.{Overlap, inner_result, overlap_problem, IsOverlap, JoinsUnder, Joins, IsJoined}
+use Rattle.fvn_critical_pairs.specs.Overlaps.{Overlap, inner_result, overlap_problem, IsOverlap, JoinsUnder, Joins, SubsumeAll, IsJoined}
 use Rattle.fvn_critical_pairs.specs.Divergence.{StepsBy, Diverge}
 
--- each rule is joined
-abbrev pub AreAllJoined : Declarations → RuleLists → Type 0
-AreAllJoined d lists = (rule : Rule) → Contains lists.rules rule → IsJoined d (equations_of lists.equations) lists rule
+-- each of the chosen rules is joined
+abbrev pub AreAllJoined : Declarations → RuleLists → List Rule → Type 0
+AreAllJoined d lists chosen =
+    (rule : Rule) → Contains chosen rule → IsJoined d (equations_of lists.equations) lists chosen rule
 
--- where all overlaps of the rules of sort-decreasing equations join, any two steps from one term join
+-- where all overlaps join of rules that subsume those of sort-decreasing equations, any two steps from one term join
 abbrev pub OverlapsOfRulesDecideSteps : Type 0
 OverlapsOfRulesDecideSteps =
     (d : Declarations) (lists : RuleLists) → AreUsed d (equations_of lists.equations) lists →
-    AreSortDecreasing d (equations_of lists.equations) → AreAllJoined d lists →
+    AreSortDecreasing d (equations_of lists.equations) →
+    (chosen : List Rule) → SubsumeAll d lists.rules chosen → AreAllJoined d lists chosen →
     StepsJoin d (equations_of lists.equations)
 
 -- and where the equations terminate too, they are confluent
 abbrev pub OverlapsOfRulesDecideConfluence : Type 0
 OverlapsOfRulesDecideConfluence =
     (d : Declarations) (lists : RuleLists) → AreUsed d (equations_of lists.equations) lists →
-    AreSortDecreasing d (equations_of lists.equations) → AreAllJoined d lists →
+    AreSortDecreasing d (equations_of lists.equations) →
+    (chosen : List Rule) → SubsumeAll d lists.rules chosen → AreAllJoined d lists chosen →
     IsTerminating d (equations_of lists.equations) → IsConfluent d (equations_of lists.equations)
 
 -- where both results join under each of a complete list of unifiers over new variables, the overlap joins

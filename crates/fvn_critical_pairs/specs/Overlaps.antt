@@ -8,6 +8,8 @@ use Rattle.fvn_terms.specs.declared.plain.Var.{Var}
 use Rattle.fvn_terms.specs.declared.plain.OpId.{OpId}
 use Rattle.fvn_terms.specs.declared.declarations.Declarations.{Declarations}
 use Rattle.fvn_terms.specs.Substitution.{Substitution, apply, Occurs}
+use Rattle.fvn_terms.specs.Equality.{BEqual}
+use Rattle.fvn_terms.specs.Sorts.{IsWellSorted}
 use Rattle.fvn_terms.specs.Unifiers.{Problem}
 use Rattle.fvn_terms.specs.Theory.{Equations}
 use Rattle.fvn_terms.specs.Rewriting.{AreJoinable}
@@ -42,6 +44,24 @@ pub record IsRenewed (d : Declarations) (next : ℕ) (rule new : Rule) : Type 0 
   pub numbers : (y : Var) → OccursInRule new y → IsNumberedUpTo next y
   pub positive : 1 ≤ next
   pub small : next ≤ FIRST_FRESH
+
+-- The first rule subsumes the second: one well-sorted substitution makes both sides of the second from its own, modulo
+-- the axioms, and one operator heads both left sides.
+pub record Subsumes (d : Declarations) (general special : Rule) : Type 0 where
+  pub by : Substitution
+  pub well_sorted : IsWellSorted d by
+  pub left : BEqual d (apply by (plain general.left)) (plain special.left)
+  pub right : BEqual d (apply by (plain general.right)) (plain special.right)
+  pub head : head_of general.left ≡ head_of special.left
+
+-- one of these rules subsumes this one
+abbrev pub SomeSubsumes : Declarations → List Rule → Rule → Type 0
+SomeSubsumes d chosen special = (general : Rule) × (Contains chosen general × Subsumes d general special)
+
+-- some of the given rules, which subsume all given rules
+pub record SubsumeAll (d : Declarations) (rules chosen : List Rule) : Type 0 where
+  pub given : (rule : Rule) → Contains chosen rule → Contains rules rule
+  pub enough : (rule : Rule) → Contains rules rule → SomeSubsumes d chosen rule
 
 -- an outer rule, the path to a part of its left side, the part, and an inner rule
 pub record Overlap : Type 0 where
@@ -90,9 +110,26 @@ module _ (d : Declarations) (equations : Equations) (o : Overlap) where
   abbrev pub Joins : Type 0
   Joins = (s c : Substitution) → Meet d (plain o.at) (plain o.inner.left) s c → JoinsWhere s c
 
--- some renewal of the rule joins in all its overlaps with given rules
-pub record IsJoined (d : Declarations) (equations : Equations) (lists : RuleLists) (rule : Rule) : Type 0 where
+-- the overlap of the whole left side of the outer rule with the inner one
+abbrev pub whole_overlap : Rule → Rule → Overlap
+whole_overlap outer inner = record { outer = outer; path = []; at = outer.left; inner = inner }
+
+-- some renewal of the rule joins with the inner one in the overlap of both whole left sides
+pub record JoinsWhole (d : Declarations) (equations : Equations) (rule inner : Rule) : Type 0 where
   pub next : ℕ
   pub new : Rule
   pub renewed : IsRenewed d next rule new
-  pub joins : (o : Overlap) → o.outer ≡ new → IsOverlapWith lists o → Joins d equations o
+  pub joins : Joins d equations (whole_overlap new inner)
+
+-- it does so with one of the two as the outer rule
+abbrev pub JoinEitherWay : Declarations → Equations → Rule → Rule → Type 0
+JoinEitherWay d equations a b = JoinsWhole d equations a b ⊎ JoinsWhole d equations b a
+
+-- Some renewal of the rule joins in its overlaps with chosen ones of the given rules; where whole left sides overlap,
+-- which of the two is renewed does not matter.
+pub record IsJoined (d : Declarations) (equations : Equations) (lists : RuleLists) (chosen : List Rule) (rule : Rule) : Type 0 where
+  pub next : ℕ
+  pub new : Rule
+  pub renewed : IsRenewed d next rule new
+  pub joins : (o : Overlap) → o.outer ≡ new → IsOverlapWith lists o → Contains chosen o.inner → (o.path ≡ [] → ⊥) → Joins d equations o
+  pub whole : (inner : Rule) → Contains chosen inner → (f : OpId) → head_of rule.left ≡ Some f → head_of inner.left ≡ Some f → JoinEitherWay d equations rule inner

@@ -3,7 +3,14 @@ pub mod Chosen
 pub mod Renamed
 mod Joining
 mod Meeting
-mod Parts
+pub mod Parts
+mod Summands
+mod Singles
+pub mod PairForms
+pub mod PairSteps
+mod PairRules
+pub mod Within
+mod PairTurns
 pub mod Stepping
 mod Renaming
 mod Turning

@@ -1,4 +1,4 @@
--- Where all turns lift, each reducible instance with irreducible values lifts.
+-- Where what meets a rule lifts, each reducible instance with irreducible values lifts.
 use Rattle.std.proofs.Common.{◌≡◌, ◌⊎◌, ◌<◌, ℕ, zero, suc, List, [], ◌∷◌, length, get_or, refl, sym, subst, inl, inr, arith}
 use Rattle.std.specs.List.{Any, Contains}
 use Rattle.fvn_terms.specs.declared.plain.Var.{Var}
@@ -20,14 +20,13 @@ use Rattle.fvn_rewrite_laws.proofs.Agreement.{equal_by_agreement}
 use Rattle.fvn_rewrite_laws.proofs.Choosing.{occurring_sort}
 use Rattle.fvn_rewrite_laws.proofs.Lists.{each_equal_itself, each_equal_back, list_before}
 use Rattle.fvn_rewrite_coherence.specs.Laws.{CoherenceLaws}
-use Rattle.fvn_rewrite_rules.specs.declared.rule.Rule.{Rule}
 use Rattle.fvn_rewrite_rules.specs.Given.{RuleLists}
 use Rattle.fvn_exploring.specs.Setting.{Setting}
 use Rattle.fvn_exploring.specs.Children.{narrowed}
 use Rattle.fvn_exploring.specs.Expansions.{IsExpandable}
 use Rattle.fvn_exploring.specs.Liftings.{instance_of, value_under, IsLifted, KeepsIrreducible}
-use Rattle.fvn_lifting.specs.Turns.{IsTurn, MeetsRule}
-use Rattle.fvn_lifting.specs.Lifted.{instances, HaveOneInstance, KeepsIrreducibleFrom, IsLiftedFrom, LiftsAt}
+use Rattle.fvn_lifting.specs.Turns.{MeetsRule}
+use Rattle.fvn_lifting.specs.Lifted.{instances, HaveOneInstance, KeepsIrreducibleFrom, IsLiftedFrom}
 
 module _ (g : Setting) (rewriting : RewritingLaws g.declarations g.equations) (coherent : CoherenceLaws g.declarations g.equations) where
   -- what is equal to an irreducible term is so
@@ -61,7 +60,7 @@ module _ (g : Setting) (rewriting : RewritingLaws g.declarations g.equations) (c
         (subst (BEqual g.declarations (apply (followed_by (substitution v.subst) s) t)) (sym (apply-apply from.values c t))
         (equal_by_agreement g.declarations (followed_by (substitution v.subst) s) (followed_by from.values c) t (λ y o. one.values y (within y o))))
 
-    keeps_there : KeepsIrreducibleFrom g v.vars from c
+    pub keeps_there : KeepsIrreducibleFrom g v.vars from c
     keeps_there = record {
       well_sorted = one.well_sorted;
       values = λ x h. still_irreducible (value_under s v x) (apply c (from.values x)) (one.values x h) (keeps.values x h);
@@ -85,12 +84,10 @@ module _ (g : Setting) (rewriting : RewritingLaws g.declarations g.equations) (c
       same = λ x i. BEqual-trans g.declarations (one.values x i) (h.same x i);
     }
 
-    module _ (lists : RuleLists) (children : List Variant) (turns : (at : FlatTerm) (rule : Rule) → IsTurn lists from.terms at rule → LiftsAt g v.vars from at rule.left children)
-        (meets : (us : List Term) → ListRewrites g.declarations g.equations (instances c from) us → MeetsRule g.declarations lists from.terms c) where
+    -- what meets a rule lifts from the renamed instance, so that v's steps lift
+    module _ (lists : RuleLists) (children : List Variant) (meets : (us : List Term) → ListRewrites g.declarations g.equations (instances c from) us → MeetsRule g.declarations lists from.terms c)
+        (lifts : MeetsRule g.declarations lists from.terms c → Any (IsLiftedFrom g v.vars from c) children) where
       pub lifts_into_some : (us : List Term) → ListRewrites g.declarations g.equations (instance_of s v) us → (k : Variant) × Contains children k × IsLifted g v s k
-      lifts_into_some us l = go (turns m.at m.rule m.turn c m.by keeps_there m.meets) where
-        m : MeetsRule g.declarations lists from.terms c
-        m = let q = step_there us l in meets q.0 q.1.0
-
+      lifts_into_some us l = go (lifts (let q = step_there us l in meets q.0 q.1.0)) where
         go : Any (IsLiftedFrom g v.vars from c) children → (k : Variant) × Contains children k × IsLifted g v s k
         go (i, k, low, e, h) = (k, (i, low, e), lifts_back k h)

@@ -1,13 +1,18 @@
 -- A step of some summands of a sum is a step of the sum.
-use Rattle.std.proofs.Common.{◌≡◌, ◌≤◌, ◌+◌, ◌∙◌, true, List, [], ◌∷◌, length, refl, ap, sym, subst, arith}
+use Rattle.std.proofs.Common.{◌≡◌, ◌⊎◌, ◌≤◌, ◌+◌, ◌∙◌, true, false, List, [], ◌∷◌, length, refl, ap, sym, subst, inl, inr, arith}
 use Rattle.std.specs.List.{AllByRecursion, Contains}
 use Rattle.std.proofs.lemmas.List.{append-nil}
+use Rattle.std.proofs.lemmas.Cmp.{upto}
+use Rattle.std.specs.Ordering.{is_gt}
+use Rattle.fvn_terms.specs.declared.plain.Var.{Var}
 use Rattle.fvn_terms.specs.declared.plain.OpId.{OpId}
 use Rattle.fvn_terms.specs.declared.plain.SortId.{SortId}
+use Rattle.fvn_terms.specs.declared.declarations.Axioms.{Axioms}
+use Rattle.fvn_terms.specs.declared.declarations.Axioms.TheVariants.{Free, Comm, AssocComm, AssocCommId}
 use Rattle.fvn_terms.specs.declared.declarations.Rank.{Rank}
 use Rattle.fvn_terms.specs.declared.declarations.Declarations.{Declarations}
 use Rattle.fvn_terms.specs.Term.{Term}
-use Rattle.fvn_terms.specs.Substitution.{Substitution, apply}
+use Rattle.fvn_terms.specs.Substitution.{Substitution, apply, Occurs}
 use Rattle.fvn_terms.specs.Signature.{kind, declared, axioms, HasKind}
 use Rattle.fvn_terms.specs.Places.{here, inside, first}
 use Rattle.fvn_terms.specs.Equality.{two, IsAssociative, BEqual}
@@ -15,19 +20,23 @@ use Rattle.fvn_terms.specs.Sorts.{IsWellSorted}
 use Rattle.fvn_terms.specs.Theory.{Equations}
 use Rattle.fvn_terms.specs.Rewriting.{Rewrites}
 use Rattle.fvn_terms.specs.Laws.{RewritingLaws}
-use Rattle.fvn_terms.proofs.Equal.{BEqual-apply}
+use Rattle.fvn_terms.proofs.Equal.{BEqual-apply, BEqual-sym}
+use Rattle.fvn_terms.proofs.Occurrences.{BEqual-occurs}
 use Rattle.fvn_forms.specs.Flat.{FlatTerm, FlatTerms, fapp, fnone, fmore, fpack, funpack, nest, fvar, plain, plain_all}
-use Rattle.fvn_forms.specs.InOrder.{count}
+use Rattle.fvn_forms.specs.Order.{flat_cmp}
+use Rattle.fvn_forms.specs.InOrder.{InOrder, count}
 use Rattle.fvn_forms.specs.Canon.{parts, all_parts, sum, build, canon}
 use Rattle.fvn_forms.specs.Settled.{IsPiece, IsJoined, Settled, SettledAll}
 use Rattle.fvn_forms.specs.Good.{IsGood}
+use Rattle.fvn_forms.proofs.Order.{flat_cmp_total}
 use Rattle.fvn_forms.proofs.InOrder.{count_append, count_sort}
 use Rattle.fvn_forms.proofs.Sums.{fpack-funpack, SettledAll-fpack, SettledAll-funpack, parts_sum, sum_same_counts, sum_in_order, sum_parts, all_parts-pieces}
 use Rattle.fvn_forms.proofs.Build.{sum_settled, build_settled, build_sum, count_parts_build}
 use Rattle.fvn_forms.proofs.Eval.{fvar_settled, canon_settled, eval_nest, canon_plain, canon_plain_all}
 use Rattle.fvn_forms.proofs.KindsOfSums.{nest_parts_of_kind, two_of_kind, sum_of_forms_of_kind}
+use Rattle.fvn_forms.proofs.KindsKept.{b_equal_keeps_kind}
 use Rattle.fvn_forms.proofs.ToCanon.{to_canon}
-use Rattle.fvn_flat.specs.Fits.{Fits, AllFit}
+use Rattle.fvn_flat.specs.Fits.{Fits, AllFit, TakesAsDeclared, Takes}
 use Rattle.fvn_flat.specs.FlatPlaces.{IsReplaced, IsReplacedAmong, here as here_form, inside as inside_form, first as first_form, later as later_form, IsDivided, divided, taking, leaving, IsPartOfSum}
 use Rattle.fvn_flat.proofs.Fitting.{args_fit}
 
@@ -53,6 +62,23 @@ divided_counts : (q : FlatTerm) {all taken others : List FlatTerm} → IsDivided
 divided_counts q divided = refl
 divided_counts q (taking p) = let e = divided_counts q p in omega arith
 divided_counts q (leaving p) = let e = divided_counts q p in omega arith
+
+-- what is taken from a list in order is in order
+first_below : (t : FlatTerm) {all others : List FlatTerm} {u : FlatTerm} {taken : List FlatTerm} → InOrder (t ∷ all) → IsDivided all (u ∷ taken) others → is_gt (flat_cmp t u) ≡ false
+first_below t h (taking p) = h.0
+first_below t {u} h (leaving {t = x} p) = upto flat_cmp_total t x u h.0 (first_below x h.1 p)
+
+rest_in_order : (t : FlatTerm) (all : List FlatTerm) → InOrder (t ∷ all) → InOrder all
+rest_in_order t [] h = tt
+rest_in_order t (u ∷ all) h = h.1
+
+pub divided_order : {all taken others : List FlatTerm} → IsDivided all taken others → InOrder all → InOrder taken
+divided_order divided h = tt
+divided_order (taking {t} {all} {taken} {others} p) h = go taken p (divided_order p (rest_in_order t all h)) where
+  go : (l : List FlatTerm) → IsDivided all l others → InOrder l → InOrder (t ∷ l)
+  go [] p o = tt
+  go (u ∷ l) p o = (first_below t h p, o)
+divided_order (leaving {t} {all} p) h = divided_order p (rest_in_order t all h)
 
 nothing_left : {all taken others : List FlatTerm} → IsDivided all taken others → others ≡ [] → all ≡ taken
 nothing_left divided e = refl
@@ -114,15 +140,27 @@ module _ (d : Declarations) (good : IsGood d) (f : OpId) (others : List FlatTerm
   pub part_kind : HasKind d (plain at) k
   part_kind = subst (λ t. HasKind d (plain t) k) (sym p.part_is) (sum_kind p.taken p.several kinds.0)
 
+  settled_again : (ts : FlatTerms) → AllByRecursion (Settled d) (funpack ts) → SettledAll d ts
+  settled_again ts h = subst (SettledAll d) (fpack-funpack ts) (SettledAll-fpack d (funpack ts) h)
+
+  -- and settled
+  pub part_settled : Settled d at
+  part_settled = subst (Settled d) (sym p.part_is) (
+    record {
+      associative = assoc;
+      pieces = pieces.0;
+      two_or_more = p.several;
+      in_order = divided_order p.divided_into settled.0.in_order;
+    },
+    settled_again p.taken each_settled.0,
+  )
+
   sum_canon : (ts : FlatTerms) → 2 ≤ length (funpack ts) → SettledAll d ts → AllByRecursion (IsPiece d f) (funpack ts) → canon d (plain (fapp f true ts)) ≡ sum d f (funpack ts)
   sum_canon fnone several s i = absurd (omega (arith, several))
   sum_canon (fmore t ts) several s i =
       eval_nest d fvar (fvar_settled d) f assoc (plain t) (plain_all ts)
       ∙ ap (λ l. sum d f (all_parts d f l)) (canon_plain_all d (fmore t ts) s)
       ∙ ap (sum d f) (all_parts-pieces d f (t ∷ funpack ts) i)
-
-  settled_again : (ts : FlatTerms) → AllByRecursion (Settled d) (funpack ts) → SettledAll d ts
-  settled_again ts h = subst (SettledAll d) (fpack-funpack ts) (SettledAll-fpack d (funpack ts) h)
 
   part_canon : canon d (plain at) ≡ sum d f (funpack p.taken)
   part_canon = ap (λ t. canon d (plain t)) p.part_is ∙ sum_canon p.taken p.several (settled_again p.taken each_settled.0) pieces.0
@@ -197,6 +235,67 @@ module _ (d : Declarations) (good : IsGood d) (f : OpId) (others : List FlatTerm
           ∙ built_is given h.flat (all_parts d f (given ∷ others)) counts
           ∙ sym (build_sum d f assoc given others)
 
+  -- where nothing is left, the part is the whole, and what is put in is the form itself
+  whole_alone : others ≡ [] → whole ≡ at
+  whole_alone e = p.is_sum ∙ ap (fapp f true) (sym (fpack-funpack p.all) ∙ ap fpack (nothing_left p.divided_into e) ∙ fpack-funpack p.taken) ∙ sym p.part_is
+
+  put_alone : (given : FlatTerm) → Settled d given → others ≡ [] → build d f (given ∷ others) ≡ given
+  put_alone given h e = ap (λ l. build d f (given ∷ l)) e ∙ build_sum d f assoc given [] ∙ ap (sum d f) (append-nil (parts d f given)) ∙ sum_parts d f given h
+
+  -- what occurs in the part occurs in the whole
+  pub part_occurs : (x : Var) → Occurs x (plain at) → Occurs x (plain whole)
+  part_occurs x i = go others refl where
+    go : (l : List FlatTerm) → others ≡ l → Occurs x (plain whole)
+    go [] e = subst (λ t. Occurs x (plain t)) (sym (whole_alone e)) i
+    go (o ∷ os) e = BEqual-occurs x d (plain whole) (two f (plain at) (plain (sum d f others))) (BEqual-sym d (whole_equal o os e)) (inl i)
+
+  each_fits : (l : List FlatTerm) → AllByRecursion (Settled d) l → AllByRecursion (λ t. HasKind d (plain t) k) l → AllFit d l
+  each_fits [] h j = tt
+  each_fits (t ∷ l) h j = (record { flat = h.0; kinded = (k, j.0) }, each_fits l h.1 j.1)
+
+  -- those that are taken fit, and so do the others
+  pub taken_fit : AllFit d (funpack p.taken)
+  taken_fit = each_fits (funpack p.taken) each_settled.0 kinds.0
+
+  pub others_fit : AllFit d others
+  others_fit = each_fits others each_settled.1 kinds.1
+
+  takes_all : (a : Axioms) → IsAssociative a → (l : List FlatTerm) → 2 ≤ length l → AllByRecursion (λ t. HasKind d (plain t) k) l → TakesAsDeclared d a rank.0 l
+  takes_all Free i l n h = absurd i
+  takes_all Comm i l n h = absurd i
+  takes_all AssocComm i l n h = (n, subst (λ q. AllByRecursion (λ t. HasKind d (plain t) q) l) (sym rank.1.1) h)
+  takes_all (AssocCommId e) i l n h = (n, subst (λ q. AllByRecursion (λ t. HasKind d (plain t) q) l) (sym rank.1.1) h)
+
+  -- the operator takes those that are taken
+  pub taken_takes : Takes d f (funpack p.taken)
+  taken_takes = record { rank = rank.0; listed = rank.1.0; args = takes_all (axioms d f) assoc (funpack p.taken) p.several kinds.0 }
+
+  module _ (given : FlatTerm) (given_fits : Fits d given) (given_kind : HasKind d (plain given) k) where
+    -- the form beside the others is of the kind of the whole, and fits
+    pub put_kind : HasKind d (plain (build d f (given ∷ others))) k
+    put_kind = go others refl where
+      go : (l : List FlatTerm) → others ≡ l → HasKind d (plain (build d f (given ∷ others))) k
+      go [] e = subst (λ t. HasKind d (plain t) k) (sym (put_alone given given_fits.flat e)) given_kind
+      go (o ∷ os) e = b_equal_keeps_kind d good.fits (put_equal o os e given given_fits given_kind) k (of_two (plain given) (plain (sum d f others)) given_kind (rest_kind o os e))
+
+    pub put_fits : Fits d (build d f (given ∷ others))
+    put_fits = record { flat = build_settled d f (given ∷ others) (given_fits.flat, each_settled.1); kinded = (k, put_kind) }
+
+    -- what occurs in it occurs in the form or in the whole
+    pub put_occurs : (x : Var) → Occurs x (plain (build d f (given ∷ others))) → Occurs x (plain given) ⊎ Occurs x (plain whole)
+    put_occurs x i = go others refl where
+      go : (l : List FlatTerm) → others ≡ l → Occurs x (plain given) ⊎ Occurs x (plain whole)
+      go [] e = inl (subst (λ t. Occurs x (plain t)) (put_alone given given_fits.flat e) i)
+      go (o ∷ os) e = back (BEqual-occurs x d (two f (plain given) (plain (sum d f others))) (plain (build d f (given ∷ others))) (put_equal o os e given given_fits given_kind) i) where
+        back : Occurs x (two f (plain given) (plain (sum d f others))) → Occurs x (plain given) ⊎ Occurs x (plain whole)
+        back (inl j) = inl j
+        back (inr (inl j)) = inr (BEqual-occurs x d (plain whole) (two f (plain at) (plain (sum d f others))) (BEqual-sym d (whole_equal o os e)) (inr (inl j)))
+        back (inr (inr j)) = absurd j
+
+    -- the operator takes the form and the others, where there are some
+    pub put_takes : 1 ≤ length others → Takes d f (given ∷ others)
+    put_takes n = record { rank = rank.0; listed = rank.1.0; args = takes_all (axioms d f) assoc (given ∷ others) (omega (arith, n)) (given_kind, kinds.1) }
+
   module _ (equations : Equations) (rewriting : RewritingLaws d equations) (u : Substitution) (sorted : IsWellSorted d u) (given : FlatTerm) (given_fits : Fits d given) (given_kind : HasKind d (plain given) k)
       (step : Rewrites d equations (apply u (plain at)) (apply u (plain given))) where
     -- a step of the part is one of the whole
@@ -204,8 +303,8 @@ module _ (d : Declarations) (good : IsGood d) (f : OpId) (others : List FlatTerm
     whole_steps = go others refl where
       alone : others ≡ [] → Rewrites d equations (apply u (plain whole)) (apply u (plain (build d f (given ∷ others))))
       alone e =
-          let same : whole ≡ at = p.is_sum ∙ ap (fapp f true) (sym (fpack-funpack p.all) ∙ ap fpack (nothing_left p.divided_into e) ∙ fpack-funpack p.taken) ∙ sym p.part_is in
-          let put : build d f (given ∷ others) ≡ given = ap (λ l. build d f (given ∷ l)) e ∙ build_sum d f assoc given [] ∙ ap (sum d f) (append-nil (parts d f given)) ∙ sum_parts d f given given_fits.flat in
+          let same = whole_alone e in
+          let put = put_alone given given_fits.flat e in
           subst (λ t. Rewrites d equations (apply u (plain t)) (apply u (plain (build d f (given ∷ others))))) (sym same)
           (subst (λ t. Rewrites d equations (apply u (plain at)) (apply u (plain t))) (sym put) step)
 

@@ -1,8 +1,9 @@
 -- Laws of lifting: a reducible instance with irreducible values is an instance of a child.
 -- J.-M. Hullot, Canonical forms and unification, 1980; J. Meseguer and P. Thati, Symbolic reachability analysis using
 -- narrowing, 2007.
-use Rattle.std.specs.Prelude.{◌≡◌, ℕ, List, [], ◌∷◌, map, All, Any, Contains}
+use Rattle.std.specs.Prelude.{◌≡◌, ◌⊎◌, ℕ, List, [], ◌∷◌, map, All, Any, Contains, Some}
 use Rattle.fvn_terms.specs.declared.plain.Var.{Var}
+use Rattle.fvn_terms.specs.declared.plain.OpId.{OpId}
 use Rattle.fvn_terms.specs.declared.declarations.Declarations.{Declarations}
 use Rattle.fvn_terms.specs.Term.{Term}
 use Rattle.fvn_terms.specs.Substitution.{Substitution, apply, Occurs}
@@ -13,13 +14,14 @@ use Rattle.fvn_forms.specs.Flat.{FlatTerm, plain}
 use Rattle.fvn_forms.specs.Good.{IsGood}
 use Rattle.fvn_signature.specs.Queries.{IsCompleted}
 use Rattle.fvn_theory.specs.Equations.{equations_of}
-use Rattle.fvn_flat.specs.Fits.{AllFit}
+use Rattle.fvn_flat.specs.Fits.{Fits, AllFit}
+use Rattle.fvn_flat.specs.Forms.{head_of}
 use Rattle.fvn_flat.specs.OneAnswer.{IsCompleteFor}
 use Rattle.fvn_flat.specs.Successors.{Narrowed, OccursIn, IsRenamed, IsStepFrom}
 use Rattle.fvn_cover.specs.declared.variant.Variant.{Variant}
 use Rattle.fvn_rewrite_laws.specs.Admissible.{AreAdmissible}
 use Rattle.fvn_rewrite_rules.specs.declared.rule.Rule.{Rule}
-use Rattle.fvn_rewrite_rules.specs.Given.{RuleLists, AreRules}
+use Rattle.fvn_rewrite_rules.specs.Given.{RuleLists, AreRules, headed}
 use Rattle.fvn_exploring.specs.Setting.{Setting}
 use Rattle.fvn_exploring.specs.Children.{narrowed}
 use Rattle.fvn_exploring.specs.Liftings.{LiftsInto}
@@ -27,6 +29,7 @@ use Rattle.fvn_exploring.specs.Expansions.{IsExpandable}
 use Rattle.fvn_lifting.specs.Meetings.{IsNew, ShareNone, IsOverNew, Meet, ComeFrom}
 use Rattle.fvn_lifting.specs.Turns.{IsTurn, MeetsRule}
 use Rattle.fvn_lifting.specs.Lifted.{may_be_any, HaveOneInstance, IsStepUnder, LiftsAt, IsTurned}
+use Rattle.fvn_lifting.specs.Pairs.{IsMetInPairs, IsReducibleInPart, PairsLiftAt}
 
 -- Where s and c make two terms without common variables meet, both come from one member of any complete list of
 -- unifiers over new variables.
@@ -52,6 +55,14 @@ InstancesMeetRules =
     (terms : List FlatTerm) → AllFit d terms → (s : Substitution) → IsWellSorted d s →
     ((x : Var) → Any (λ t. Occurs x (plain t)) terms → IsIrreducible d equations (s x)) →
     (us : List Term) → ListRewrites d equations (map (apply s) (map plain terms)) us → MeetsRule d lists terms s
+
+-- where an instance of a sum meets a rule that is met in pairs, that of one summand or of two is reducible
+abbrev pub SumsStepInPairs : Type 0
+SumsStepInPairs =
+    (d : Declarations) (equations : Equations) (lists : RuleLists) → AreUsed d equations lists →
+    (at : FlatTerm) → Fits d at → (f : OpId) → head_of at ≡ Some f →
+    (rule : Rule) → Contains (headed lists f) rule → IsMetInPairs d lists rule →
+    (s c : Substitution) → Meet d (plain at) (plain rule.left) s c → IsReducibleInPart d equations f at s
 
 -- what a narrowing step makes is reached by one step from the instance by its unifier, with the same values
 abbrev pub SuccessorsAreSteps : Type 0
@@ -81,11 +92,14 @@ TurnsLift =
     All (IsOverNew first ((plain at, plain left) ∷ [])) unifiers →
     (children : List Variant) → All (IsTurned g vars from children) unifiers → LiftsAt g vars from at left children
 
--- where instances lift at each turn, each reducible instance with irreducible values lifts into a child
+-- Where at each turn instances lift, or else the rule is met in pairs and at pairs they lift, each reducible instance
+-- with irreducible values lifts into a child.
 abbrev pub WholeExpansionsLift : Type 0
 WholeExpansionsLift =
     (g : Setting) (lists : RuleLists) → AreUsed g.declarations g.equations lists →
     (first : ℕ) (v : Variant) → IsExpandable g first v →
     (from : Narrowed) → IsRenamed g.declarations v.vars (narrowed v) from → (children : List Variant) →
-    ((at : FlatTerm) (rule : Rule) → IsTurn lists from.terms at rule → LiftsAt g v.vars from at rule.left children) →
+    ((at : FlatTerm) (rule : Rule) → IsTurn lists from.terms at rule →
+    LiftsAt g v.vars from at rule.left children
+    ⊎ (IsMetInPairs g.declarations lists rule × PairsLiftAt g lists v.vars from at children)) →
     LiftsInto g v (Contains children)

@@ -2,4 +2,5 @@
 pub mod Meetings
 pub mod Turns
 pub mod Lifted
+pub mod Pairs
 pub mod Laws

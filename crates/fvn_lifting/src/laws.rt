@@ -1,5 +1,5 @@
 //! Laws of lifting, each the contract of a function that does nothing.
-ghost use Rattle.fvn_lifting.specs.Laws.{MeetingsComeFromUnifiers, InstancesMeetRules, SuccessorsAreSteps};
+ghost use Rattle.fvn_lifting.specs.Laws.{MeetingsComeFromUnifiers, InstancesMeetRules, SumsStepInPairs, SuccessorsAreSteps};
 ghost use Rattle.fvn_lifting.specs.Laws.{RenamedFormsHaveTheSameInstances, TurnsLift, WholeExpansionsLift};
 
 use fvn_rewrite_coherence::{instances_step_at_parts, rules_are_coherent};
@@ -17,6 +17,14 @@ pub fn instances_meet_rules()
     ensures { InstancesMeetRules }
 {
     instances_step_at_parts();
+}
+
+/// Where an instance of a sum meets a rule that is met in pairs, already that of one summand, or of two, is reducible.
+pub fn sums_step_in_pairs()
+    ensures { SumsStepInPairs }
+{
+    rewriting_is_lawful();
+    rules_are_lawful();
 }
 
 /// One step leads from the instance by its unifier to what a narrowing step makes.
@@ -43,13 +51,14 @@ pub fn turns_lift()
     meetings_come_from_unifiers();
 }
 
-/// Where this is so at all places, for all needed rules, each reducible instance with irreducible values lifts into a
-/// child.
+/// Where this is so at all places, for all needed rules, or else at all pairs of summands for a rule that is met in
+/// pairs, each reducible instance with irreducible values lifts into a child.
 pub fn whole_expansions_lift()
     ensures { WholeExpansionsLift }
 {
     rewriting_is_lawful();
     rules_are_coherent();
     instances_meet_rules();
+    sums_step_in_pairs();
     renamed_forms_have_the_same_instances();
 }

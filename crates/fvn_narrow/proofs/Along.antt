@@ -9,8 +9,8 @@ use Rattle.fvn_terms.specs.Substitution.{Substitution}
 use Rattle.fvn_terms.specs.Unifiers.{Problem}
 use Rattle.fvn_forms.specs.Flat.{FlatTerm, FlatTerms, fvar, fapp, fnone, fmore, funpack}
 use Rattle.fvn_flat.specs.Forms.{head_of}
+use Rattle.fvn_flat.specs.FlatPlaces.{IsPartOf}
 use Rattle.fvn_flat.specs.Successors.{OccursIn}
-use Rattle.fvn_rewrite_rules.specs.declared.rule.Rule.{Rule}
 use Rattle.fvn_rewrite_rules.specs.Given.{headed}
 use Rattle.fvn_rewrite.specs.Usable.{Rewriting, equations_by}
 use Rattle.fvn_cover.specs.declared.variant.Variant.{Variant}
@@ -21,8 +21,8 @@ use Rattle.fvn_places.specs.Paths.{LeadsTo, LeadsNowhere, paths, paths_from}
 use Rattle.fvn_narrow_children.specs.Starts.{IsStartOf}
 use Rattle.fvn_narrow_children.specs.Values.{AreIrreducible}
 use Rattle.fvn_places.proofs.PathFacts.{leads_once}
-use Rattle.fvn_narrow.specs.inner.Turns.{Turn, IsReady, IsTurnAt, AreFound, IsAtPart, IsThrough, IsAlong, IsInMember, IsAmongFirst, IsAny}
-use Rattle.fvn_narrow.proofs.Joined.{AreSoFar, nothing_found}
+use Rattle.fvn_narrow.specs.inner.Turns.{Turn, try_of, IsReady, IsTurnAt, TryLiftsByParts, TurnLifts, ForEach, AreFound, IsTryOf, IsThrough, IsAlong, IsInMember, IsAmongFirst, IsAny}
+use Rattle.fvn_narrow.proofs.Joined.{AreSoFar, nothing_found, all_found, found_so}
 
 one_form : (a b : FlatTerm) → Some a ≡ Some b → a ≡ b
 one_form a b e = cc
@@ -65,51 +65,53 @@ module _ (r : Rewriting) (unifiers : ℕ) (drawn : Problem → Substitution → 
 
     -- along one path
     module _ (path : List ℕ) where
-      at_end : (turn : Turn) → IsAlong member path turn → (there : FlatTerm) → IsTurnAt r v there turn → LeadsTo path term there
-      at_end turn a there t = subst (λ w. LeadsTo path w there) (same_term turn a.0 there t) (subst (λ p. LeadsTo p t.term there) a.1 t.leads)
+      abbrev Lift : List Variant → Type 0
+      Lift = ForEach (TurnLifts r unifiers v) (IsAlong member path)
 
-      pub nowhere : LeadsNowhere path term → (e : Expansion) → e.children ≡ [] → e.end ≡ Whole → AreFound r unifiers drawn v (IsAlong member path) e
+      at_end : (turn : Turn) → IsAlong member path turn → (there : FlatTerm) → IsTurnAt r v there turn → turn.beside ≡ None → LeadsTo path term there
+      at_end turn a there t alone =
+          let all : t.whole ≡ there = subst (IsPartOf t.whole there) alone t.part in
+          subst (LeadsTo path term) all (subst (λ w. LeadsTo path w t.whole) (same_term turn a.0 there t) (subst (λ p. LeadsTo p t.term t.whole) a.1 t.leads))
+
+      pub nowhere : LeadsNowhere path term → (e : Expansion) → e.children ≡ [] → e.end ≡ Whole → AreFound r unifiers drawn v Lift e
       nowhere none e children whole =
-          nothing_found r unifiers drawn v (IsAlong member path) e children whole (λ turn a there t. absurd (none there (at_end turn a there t)))
+          nothing_found r unifiers drawn v Lift e children whole (λ turn a there t alone. absurd (none there (at_end turn a there t alone)))
 
       module _ (at : FlatTerm) (leads : LeadsTo path term at) where
-        head_there : (turn : Turn) → IsAlong member path turn → (there : FlatTerm) → (t : IsTurnAt r v there turn) → head_of at ≡ Some t.operator
-        head_there turn a there t = ap head_of (leads_once path term at there leads (at_end turn a there t)) ∙ t.heads
+        one_end : (turn : Turn) → IsAlong member path turn → (there : FlatTerm) → (t : IsTurnAt r v there turn) → turn.beside ≡ None → at ≡ there
+        one_end turn a there t alone = leads_once path term at there leads (at_end turn a there t alone)
 
         -- a variable has no turn
-        pub headless : head_of at ≡ None → (e : Expansion) → e.children ≡ [] → e.end ≡ Whole → AreFound r unifiers drawn v (IsAlong member path) e
+        pub headless : head_of at ≡ None → (e : Expansion) → e.children ≡ [] → e.end ≡ Whole → AreFound r unifiers drawn v Lift e
         headless none e children whole =
-            nothing_found r unifiers drawn v (IsAlong member path) e children whole (λ turn a there t. absurd (none_is_some t.operator (sym none ∙ head_there turn a there t)))
+            nothing_found r unifiers drawn v Lift e children whole (λ turn a there t alone. absurd (none_is_some t.operator (sym none ∙ ap head_of (one_end turn a there t alone) ∙ t.heads)))
 
         -- those by all needed rules
-        pub along : (f : OpId) → head_of at ≡ Some f → (rules : List Rule) → rules ≡ headed r.rules f → (e : Expansion) → AreFound r unifiers drawn v (IsAtPart member path rules) e → AreFound r unifiers drawn v (IsAlong member path) e
-        along f heads rules needed e found = record {
-          children = found.children;
-          whole = λ whole turn a there t.
-              let same : t.operator ≡ f = one_operator t.operator f (sym (head_there turn a there t) ∙ heads) in
-              found.whole whole turn (a.0, a.1, subst (λ l. Contains l turn.rule) (ap (headed r.rules) same ∙ sym needed) t.needed) there t;
-          cause = found.cause;
-        }
+        pub along : (f : OpId) → head_of at ≡ Some f → (e : Expansion) → AreFound r unifiers drawn v (ForEach (TryLiftsByParts r unifiers v) (IsTryOf at (headed r.rules f))) e → AreFound r unifiers drawn v Lift e
+        along f heads e found = found_so r unifiers drawn v (ForEach (TryLiftsByParts r unifiers v) (IsTryOf at (headed r.rules f))) Lift e all found where
+          all : ForEach (TryLiftsByParts r unifiers v) (IsTryOf at (headed r.rules f)) e.children → Lift e.children
+          all h turn a there t alone =
+              let end = one_end turn a there t alone in
+              let same : t.operator ≡ f = one_operator t.operator f (sym t.heads ∙ sym (ap head_of end) ∙ heads) in
+              subst (λ w. TryLiftsByParts r unifiers v (try_of w turn.rule) e.children) end
+              (h (try_of at turn.rule) (refl, subst (λ l. Contains l turn.rule) (ap (headed r.rules) same) t.needed))
 
     -- in one member
-    pub in_the_member : (list : List (List ℕ)) → list ≡ paths term → (children : List Variant) → AreSoFar r unifiers drawn v (IsThrough member list) children →
-        AreFound r unifiers drawn v (IsInMember member) record { children = children; end = Whole }
-    in_the_member list all children so_far = record {
-      children = so_far.children_are;
-      whole = λ whole turn m there t.
-          let listed : Contains (paths t.term) turn.path = leads_listed turn.path t.term there t.operator t.leads t.heads in
-          so_far.lift turn (m, subst (λ l. Contains l turn.path) (ap paths (same_term turn m there t) ∙ sym all) listed) there t;
-      cause = tt;
-    }
+    pub in_the_member : (list : List (List ℕ)) → list ≡ paths term → (children : List Variant) → AreSoFar r unifiers drawn v (ForEach (TurnLifts r unifiers v) (IsThrough member list)) children →
+        AreFound r unifiers drawn v (ForEach (TurnLifts r unifiers v) (IsInMember member)) record { children = children; end = Whole }
+    in_the_member list all children so_far = all_found r unifiers drawn v (ForEach (TurnLifts r unifiers v) (IsThrough member list)) (ForEach (TurnLifts r unifiers v) (IsInMember member)) children each so_far where
+      each : ForEach (TurnLifts r unifiers v) (IsThrough member list) children → ForEach (TurnLifts r unifiers v) (IsInMember member) children
+      each h turn m there t alone =
+          let whole : t.whole ≡ there = subst (IsPartOf t.whole there) alone t.part in
+          let listed : Contains (paths t.term) turn.path = leads_listed turn.path t.term there t.operator (subst (LeadsTo turn.path t.term) whole t.leads) t.heads in
+          h turn (m, subst (λ l. Contains l turn.path) (ap paths (same_term turn m there t) ∙ sym all) listed) there t alone
 
   -- in all members
-  pub in_all : (count : ℕ) → length v.terms ≤ count → (children : List Variant) → AreSoFar r unifiers drawn v (IsAmongFirst count) children →
-      AreFound r unifiers drawn v IsAny record { children = children; end = Whole }
-  in_all count long children so_far = record {
-    children = so_far.children_are;
-    whole = λ whole turn m there t. let low = slice_get_within v.terms turn.member t.term t.is in so_far.lift turn (omega arith) there t;
-    cause = tt;
-  }
+  pub in_all : (count : ℕ) → length v.terms ≤ count → (children : List Variant) → AreSoFar r unifiers drawn v (ForEach (TurnLifts r unifiers v) (IsAmongFirst count)) children →
+      AreFound r unifiers drawn v (ForEach (TurnLifts r unifiers v) IsAny) record { children = children; end = Whole }
+  in_all count long children so_far =
+      all_found r unifiers drawn v (ForEach (TurnLifts r unifiers v) (IsAmongFirst count)) (ForEach (TurnLifts r unifiers v) IsAny) children
+      (λ h turn any there t alone. let low = slice_get_within v.terms turn.member t.term t.is in h turn (omega arith) there t alone) so_far
 
 -- a start with irreducible values is ready
 pub ready_start : (r : Rewriting) (next : ℕ) (v start : Variant) → IsStartOf r.signature next v start → AreIrreducible r.signature (equations_by r) start.vars start.subst → IsReady r start next

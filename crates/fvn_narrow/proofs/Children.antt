@@ -36,7 +36,7 @@ use Rattle.fvn_places.specs.Putting.{IsPut}
 use Rattle.fvn_narrow_children.specs.Growing.{IsFormOf, IsGrown}
 use Rattle.fvn_places.proofs.Replacing.{split_at}
 use Rattle.fvn_narrow.specs.Settings.{narrowing_setting}
-use Rattle.fvn_narrow.specs.inner.Turns.{Turn, IsReady, AreMembers, IsStepChild}
+use Rattle.fvn_narrow.specs.inner.Turns.{Turn, put_in, IsReady, AreMembers, IsStepChild}
 use Rattle.fvn_narrow.proofs.Turning.{problem_at, IsFitTurn, IsGivenIn}
 use Rattle.fvn_narrow.proofs.Steps.{successor, is_put, step_from}
 use Rattle.fvn_narrow.proofs.Occurring.{occurs_replaced, occurs_at, occurs_in_inst, inst_has}
@@ -107,11 +107,11 @@ module _ (r : Rewriting) where
 
 module _ (r : Rewriting) (good : IsGood r.signature) (brings_none : BringsNoVariable (equations_by r)) (rewriting : RewritingLaws r.signature (equations_by r)) (lists : ListLaws r.signature (equations_by r)) (rules : RuleLaws r.signature (equations_by r))
     (unifiers : ℕ) (drawn : Problem → Substitution → Type 0) (v : Variant) (next : ℕ) (ready : IsReady r v next) (at : FlatTerm) (turn : Turn) (t : IsFitTurn r v at turn)
-    (members : List FlatTerm) (m : AreMembers r.signature v.terms turn.member turn.path turn.rule.right members) (s : Bindings) (u : IsGivenIn r drawn next (problem_at at turn.rule.left) s) where
+    (members : List FlatTerm) (m : AreMembers r.signature v.terms turn.member turn.path (put_in r.signature turn) members) (s : Bindings) (u : IsGivenIn r drawn next (problem_at at turn.rule.left) s) where
   abbrev g : Setting
   g = narrowing_setting r unifiers
 
-  put : IsPut r.signature turn.path at m.term turn.rule.right m.new
+  put : IsPut r.signature turn.path t.turn_is.whole m.term (put_in r.signature turn) m.new
   put = is_put r good drawn v next ready at turn t members m s u
 
   term_listed : Contains v.terms m.term
@@ -131,9 +131,12 @@ module _ (r : Rewriting) (good : IsGood r.signature) (brings_none : BringsNoVari
     where
       go : Contains v.terms w ⊎ (w ≡ m.new) → OccursThere z
       go (inl k) = inl (k.0, w, k.1, k.2, o)
-      go (inr e) = elim (occurs_replaced z at turn.rule.right put.replaces (in_replaced z (subst (λ q. Occurs z (plain q)) e o))) [
+      go (inr e) = elim (occurs_replaced z t.turn_is.whole (put_in r.signature turn) put.replaces (in_replaced z (subst (λ q. Occurs z (plain q)) e o))) [
         | inl p ↦ inl (term_listed.0, m.term, term_listed.1, term_listed.2, p)
-        | inr p ↦ inr p
+        | inr p ↦ elim (t.given_occurs z p) [
+          | inl q ↦ inr q
+          | inr q ↦ inl (term_listed.0, m.term, term_listed.1, term_listed.2, occurs_at z t.turn_is.whole (put_in r.signature turn) put.replaces q)
+        ]
       ]
 
   pub member_fits : (w : FlatTerm) → Contains members w → Fits r.signature w
@@ -164,7 +167,7 @@ module _ (r : Rewriting) (good : IsGood r.signature) (brings_none : BringsNoVari
         let in_left = rules.variables brings_none turn.rule.left turn.rule.right t.rule z i in
         let whole = occurs_instance y (substitution s) (plain turn.rule.left) z in_left o in
         let there = occurs_value y (substitution s) (plain at) (BEqual-occurs y r.signature (apply (substitution s) (plain at)) (apply (substitution s) (plain turn.rule.left)) unified whole) in
-        let within = occurs_at there.0 at turn.rule.right put.replaces there.1.0 in
+        let within = occurs_at there.0 t.turn_is.whole (put_in r.signature turn) put.replaces (t.within there.0 there.1.0) in
         in_some_value there.0 y (term_listed.0, m.term, term_listed.1, term_listed.2, within) there.1.1
       where
         unified : BEqual r.signature (apply (substitution s) (plain at)) (apply (substitution s) (plain turn.rule.left))

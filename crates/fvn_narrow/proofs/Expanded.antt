@@ -1,6 +1,6 @@
 -- What is found in all turns of a start is an expansion of the variant.
 use Rattle.std.proofs.Common.{◌≡◌, ℕ, [], length, None, Some, refl, sym, ap, ◌∙◌, subst}
-use Rattle.std.specs.Prelude.{All, Contains}
+use Rattle.std.specs.Prelude.{◌⊎◌, List, All, Contains}
 use Rattle.std.proofs.lemmas.Option.{slice_get_read}
 use Rattle.std.proofs.lemmas.List.Elements.{All-nil, All-weaker}
 use Rattle.fvn_terms.specs.declared.plain.Var.{Var}
@@ -27,12 +27,13 @@ use Rattle.fvn_exploring.specs.declared.ends.Expansion.{Expansion}
 use Rattle.fvn_exploring.specs.Causes.{IsNarrowingProblem, IsOfSuccessor}
 use Rattle.fvn_lifting.specs.Turns.{IsTurn}
 use Rattle.fvn_lifting.specs.Lifted.{LiftsAt}
+use Rattle.fvn_lifting.specs.Pairs.{IsMetInPairs, PairsLiftAt}
 use Rattle.fvn_lifting.specs.Laws.{AreUsed, RenamedFormsHaveTheSameInstances, WholeExpansionsLift}
 use Rattle.fvn_narrow_children.specs.Starts.{IsStartOf}
 use Rattle.fvn_narrow_children.specs.Values.{HaveReducible}
 use Rattle.fvn_places.proofs.PathFacts.{path_to}
 use Rattle.fvn_narrow.specs.Settings.{narrowing_setting}
-use Rattle.fvn_narrow.specs.inner.Turns.{Turn, turn_of, IsTurnAt, IsStepChild, EndsAs, AreFound, IsAny}
+use Rattle.fvn_narrow.specs.inner.Turns.{Turn, turn_of, IsTurnAt, IsStepChild, EndsAs, TurnLifts, ForEach, AreFound, IsAny}
 use Rattle.fvn_narrow.proofs.Backwards.{renamed_start, child_back, cause_back}
 
 module _ (r : Rewriting) (good : IsGood r.signature) (completed : IsCompleted r.signature) (usable : AreUsable r.signature r.rules) (sequences : SequenceLaws r.signature (equations_by r))
@@ -55,22 +56,31 @@ module _ (r : Rewriting) (good : IsGood r.signature) (completed : IsCompleted r.
     no_variable x e = let q : None ≡ Some t.operator = sym (ap head_of e) ∙ t.heads in cc
 
     abbrev turn : Turn
-    turn = turn_of t.listed.0 (path_to no_variable t.at_place).0 rule
+    turn = turn_of t.listed.0 (path_to no_variable t.at_place).0 None rule
 
     turn_at : IsTurnAt r start at turn
     turn_at = record {
       term = t.term;
       is = slice_get_read start.terms (length start.terms) t.listed.0 t.term refl t.listed.1 (sym t.listed.2);
+      whole = at;
       leads = (path_to no_variable t.at_place).2;
+      part = refl;
+      left = tt;
       operator = t.operator;
       heads = t.heads;
       needed = t.needed;
     }
 
-  whole_lifts : WholeExpansionsLift → (e : Expansion) → AreFound r unifiers drawn start IsAny e → e.end ≡ Whole → LiftsInto g v (Contains e.children)
+  -- in each turn the instances lift, or they do at pairs
+  abbrev LiftsFrom : List Var → FlatTerm → Rule → List Variant → Type 0
+  LiftsFrom vars at rule children =
+      LiftsAt g vars (narrowed start) at rule.left children
+      ⊎ (IsMetInPairs d r.rules rule × PairsLiftAt g r.rules vars (narrowed start) at children)
+
+  whole_lifts : WholeExpansionsLift → (e : Expansion) → AreFound r unifiers drawn start (ForEach (TurnLifts r unifiers start) IsAny) e → e.end ≡ Whole → LiftsInto g v (Contains e.children)
   whole_lifts law e found whole =
       law g r.rules used first v expandable (narrowed start) (renamed_start r unifiers next v start o drawn) e.children
-      (λ at rule t. subst (λ vars. LiftsAt g vars (narrowed start) at rule.left e.children) o.vars (found.whole whole (turn at rule t) tt at (turn_at at rule t)))
+      (λ at rule t. subst (λ vars. LiftsFrom vars at rule e.children) o.vars (found.whole whole (turn at rule t) tt at (turn_at at rule t) refl))
 
   expand_cause : (end : ExpandEnd) → EndsAs g drawn (IsNarrowingProblem g v) (IsOfSuccessor g drawn v) end → IsExpandCause g drawn v end
   expand_cause Whole h = tt
@@ -79,7 +89,7 @@ module _ (r : Rewriting) (good : IsGood r.signature) (completed : IsCompleted r.
   expand_cause (Basis f system) h = h
   expand_cause (Unifiers given list) h = h
 
-  pub is_expansion : WholeExpansionsLift → (e : Expansion) → AreFound r unifiers drawn start IsAny e → IsExpansionOf g drawn v e
+  pub is_expansion : WholeExpansionsLift → (e : Expansion) → AreFound r unifiers drawn start (ForEach (TurnLifts r unifiers start) IsAny) e → IsExpansionOf g drawn v e
   is_expansion law e found = record {
     children = All-weaker (IsStepChild g drawn start) (IsChild g drawn v) (child_back r unifiers next v start o drawn) e.children found.children;
     whole = λ whole. whole_lifts law e found whole;

@@ -10,7 +10,8 @@ use Rattle.fvn_terms.specs.declared.declarations.Rank.{Rank}
 use Rattle.fvn_terms.specs.declared.declarations.Declarations.{Declarations}
 use Rattle.fvn_terms.specs.Term.{Term, var}
 use Rattle.fvn_terms.specs.Signature.{kind, declared, HasKind}
-use Rattle.fvn_terms.specs.Substitution.{apply}
+use Rattle.fvn_terms.specs.declared.plain.Var.{Var}
+use Rattle.fvn_terms.specs.Substitution.{apply, Occurs}
 use Rattle.fvn_terms.specs.Equality.{two}
 use Rattle.fvn_forms.specs.Flat.{FlatTerm, fvar, fapp, fnone, fmore, plain}
 use Rattle.fvn_forms.specs.Settled.{Settled}
@@ -29,8 +30,9 @@ use Rattle.fvn_rewrite_rules.specs.declared.rule.Rule.{Rule}
 use Rattle.fvn_rewrite_rules.specs.Given.{headed, HasOldVariables, IsNumberedRule}
 use Rattle.fvn_places.specs.Paths.{LeadsTo}
 use Rattle.fvn_places.specs.Putting.{KeepsKindsOf}
-use Rattle.fvn_narrow.specs.inner.Turns.{Turn, IsTurnAt}
+use Rattle.fvn_narrow.specs.inner.Turns.{Turn, put_in, CanStandBeside, IsTurnAt}
 use Rattle.fvn_narrow.proofs.Turning.{IsFitTurn}
+use Rattle.fvn_narrow.proofs.Beside.{part_fits, occurs_in_whole, given_fits, given_keeps, given_occurs, can_stand}
 
 item_in : {A : Type 0} (l : List A) (i : ℕ) (a : A) → slice_get l i ≡ Some a → Contains l a
 item_in l i a e = (i, slice_get_within l i a e, get_or_from_slice_get l i a a e)
@@ -84,30 +86,63 @@ module _ (r : Rewriting) (good : IsGood r.signature) (usable : AreUsable r.signa
       (sides_of n.equation, contains_map sides_of r.rules.equations n.equation (item_in r.rules.equations n.before n.equation n.is), n.made)
 
   module _ (v : Variant) (terms : AllFit r.signature v.terms) (at : FlatTerm) (turn : Turn) (t : IsTurnAt r v at turn) where
-    pub fit_turn : IsFitTurn r v at turn
-    fit_turn =
-        let n = numbered t.operator turn.rule t.needed in
-        let s = rule_settled d (sides_of n.equation) turn.rule.left turn.rule.right n.made in
-        let rule = is_rule t.operator turn.rule t.needed in
-        let k = rules.kinds turn.rule.left turn.rule.right rule in record {
-          turn_is = t;
-          rule = rule;
-          old = All-contains HasOldVariables r.rules.rules turn.rule usable.rules.old (usable.rules.given t.operator turn.rule t.needed).0;
-          at_fits = path_fits d good.fits turn.path t.term at (fits_in v.terms t.term terms (item_in v.terms turn.member t.term t.is)) t.leads;
-          left_fits = record { flat = s.0; kinded = (k.kind, k.left) };
-          right_fits = record { flat = s.1; kinded = (k.kind, k.right) };
-        }
+    whole_fits : Fits d t.whole
+    whole_fits = path_fits d good.fits turn.path t.term t.whole (fits_in v.terms t.term terms (item_in v.terms turn.member t.term t.is)) t.leads
+
+    at_fits : Fits d at
+    at_fits = part_fits d good t.whole at whole_fits turn.beside t.part
+
+    pub at_within : (x : Var) → Occurs x (plain at) → Occurs x (plain t.whole)
+    at_within x o = occurs_in_whole d good t.whole at whole_fits turn.beside t.part x o
 
     left_head : head_of turn.rule.left ≡ Some t.operator
     left_head = (usable.rules.given t.operator turn.rule t.needed).1
 
-    -- part, left side and right side have one kind
-    pub same_kind : (k : SortId) → HasKind d (plain at) k → HasKind d (plain turn.rule.left) k × HasKind d (plain turn.rule.right) k
-    same_kind k h =
-        let f = fit_turn in
-        let sides = rules.kinds turn.rule.left turn.rule.right f.rule in
-        let e : sides.kind ≡ k = one_kind d good.fits t.operator turn.rule.left at f.left_fits.flat f.at_fits.flat left_head t.heads sides.kind k sides.left h in
-        (subst (HasKind d (plain turn.rule.left)) e sides.left, subst (HasKind d (plain turn.rule.right)) e sides.right)
+    module _ (left_flat : Settled d turn.rule.left) (rule : IsRuleOf d (equations_by r) turn.rule.left turn.rule.right) where
+      -- part, left side and right side have one kind
+      kinds_agree : (k : SortId) → HasKind d (plain at) k → HasKind d (plain turn.rule.left) k × HasKind d (plain turn.rule.right) k
+      kinds_agree k h =
+          let sides = rules.kinds turn.rule.left turn.rule.right rule in
+          let e : sides.kind ≡ k = one_kind d good.fits t.operator turn.rule.left at left_flat at_fits.flat left_head t.heads sides.kind k sides.left h in
+          (subst (HasKind d (plain turn.rule.left)) e sides.left, subst (HasKind d (plain turn.rule.right)) e sides.right)
 
-    pub right_keeps : KeepsKindsOf d at turn.rule.right
+    left_settled : Settled d turn.rule.left
+    left_settled = let n = numbered t.operator turn.rule t.needed in (rule_settled d (sides_of n.equation) turn.rule.left turn.rule.right n.made).0
+
+    right_settled : Settled d turn.rule.right
+    right_settled = let n = numbered t.operator turn.rule t.needed in (rule_settled d (sides_of n.equation) turn.rule.left turn.rule.right n.made).1
+
+    rule_here : IsRuleOf d (equations_by r) turn.rule.left turn.rule.right
+    rule_here = is_rule t.operator turn.rule t.needed
+
+    pub same_kind : (k : SortId) → HasKind d (plain at) k → HasKind d (plain turn.rule.left) k × HasKind d (plain turn.rule.right) k
+    same_kind = kinds_agree left_settled rule_here
+
+    right_keeps : KeepsKindsOf d at turn.rule.right
     right_keeps k h = (same_kind k h).1
+
+    right_fit : Fits d turn.rule.right
+    right_fit = let k = rules.kinds turn.rule.left turn.rule.right rule_here in record { flat = right_settled; kinded = (k.kind, k.right) }
+
+    pub fit_turn : IsFitTurn r v at turn
+    fit_turn =
+        let k = rules.kinds turn.rule.left turn.rule.right rule_here in record {
+          turn_is = t;
+          rule = rule_here;
+          old = All-contains HasOldVariables r.rules.rules turn.rule usable.rules.old (usable.rules.given t.operator turn.rule t.needed).0;
+          whole_fits = whole_fits;
+          at_fits = at_fits;
+          left_fits = record { flat = left_settled; kinded = (k.kind, k.left) };
+          right_fits = right_fit;
+          given_fits = given_fits d good t.whole at whole_fits turn.rule.right right_fit right_keeps turn.beside t.part;
+          given_occurs = given_occurs d good t.whole at whole_fits turn.rule.right right_fit right_keeps turn.beside t.part;
+          within = at_within;
+        }
+
+    -- what is put in place of the form keeps its kind
+    pub put_keeps : KeepsKindsOf d t.whole (put_in d turn)
+    put_keeps = given_keeps d good t.whole at whole_fits turn.rule.right right_fit right_keeps turn.beside t.part
+
+    -- and is made with what stands there
+    pub right_stands : CanStandBeside d turn.beside turn.rule.right
+    right_stands = can_stand d good t.whole at whole_fits turn.rule.right right_fit right_keeps turn.beside t.part t.left

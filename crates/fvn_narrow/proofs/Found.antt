@@ -44,12 +44,11 @@ use Rattle.fvn_lifting.specs.Lifted.{LiftsAt}
 use Rattle.fvn_lifting.specs.Laws.{SuccessorsAreSteps, TurnsLift}
 use Rattle.fvn_narrow.specs.Settings.{narrowing_setting}
 use Rattle.fvn_narrow.specs.inner.Ends.{end_after, solver_end, AreEnded}
-use Rattle.fvn_narrow.specs.inner.Turns.{Turn, IsReady, AreMembers, AreGrownAt, IsStepChild, IsOfStep, EndsAs, AreFound, IsAtPart}
+use Rattle.fvn_narrow.specs.inner.Turns.{Turn, put_in, IsReady, AreMembers, AreGrownAt, IsStepChild, IsOfStep, EndsAs, try_of, TryLifts, AreFound}
 use Rattle.fvn_narrow.proofs.Turning.{problem_at, IsFitTurn, IsGivenIn}
 use Rattle.fvn_narrow.proofs.Steps.{same_form, same_names, old_is_not_new, successor, step_from}
 use Rattle.fvn_narrow.proofs.Children.{item_listed, member_fits, is_step_child}
 use Rattle.fvn_narrow.proofs.RuleTurn.{IsAnswered, given_in, at_numbered, lifts_here, nothing_meets}
-use Rattle.fvn_narrow.proofs.Once.{same_part}
 
 module _ (r : Rewriting) (good : IsGood r.signature) (completed : IsCompleted r.signature) (usable : AreUsable r.signature r.rules) (brings_none : BringsNoVariable (equations_by r)) (rewriting : RewritingLaws r.signature (equations_by r))
     (lists : ListLaws r.signature (equations_by r)) (rules : RuleLaws r.signature (equations_by r)) (steps : SuccessorsAreSteps) (turns : TurnsLift)
@@ -80,10 +79,10 @@ module _ (r : Rewriting) (good : IsGood r.signature) (completed : IsCompleted r.
     part = record {
       term = t.turn_is.term;
       listed = item_listed v.terms turn.member t.turn_is.term t.turn_is.is;
-      whole = at;
-      at_place = stands_at turn.path t.turn_is.term at t.turn_is.leads;
-      beside = None;
-      part = refl;
+      whole = t.turn_is.whole;
+      at_place = stands_at turn.path t.turn_is.term t.turn_is.whole t.turn_is.leads;
+      beside = turn.beside;
+      part = t.turn_is.part;
       no_variable = λ x e. let q : None ≡ Some t.turn_is.operator = sym (ap head_of e) ∙ t.turn_is.heads in cc;
     };
     l = left;
@@ -115,7 +114,7 @@ module _ (r : Rewriting) (good : IsGood r.signature) (completed : IsCompleted r.
   solver_cause (SizeThere (Binding list)) h = record { given = given; posed = posed; large = subst (λ n. IsTooLarge d given n list.bindings) size h }
   solver_cause (SizeThere (OfTerm w)) h = absurd h
 
-  module _ (members : List FlatTerm) (m : AreMembers d v.terms turn.member turn.path turn.rule.right members) (s : Bindings) (u : IsGivenIn r drawn next (problem_at at left) s) where
+  module _ (members : List FlatTerm) (m : AreMembers d v.terms turn.member turn.path (put_in d turn) members) (s : Bindings) (u : IsGivenIn r drawn next (problem_at at left) s) where
     told : (w : FlatTerm) → IsRaw r v members s w → Told w
     told w h = record {
       successor = successor r good drawn v next ready at turn t members m s u;
@@ -195,9 +194,9 @@ module _ (r : Rewriting) (good : IsGood r.signature) (completed : IsCompleted r.
         go (inr k) w = subst (EndsAs g drawn Posed Told) (sym k.1) (of_grown w k.0)
 
     -- what is found in this turn
-    pub found_here : AreFound r unifiers drawn v (IsAtPart turn.member turn.path (turn.rule ∷ [])) e
+    pub found_here : AreFound r unifiers drawn v (TryLifts r unifiers v (try_of at turn.rule)) e
     found_here = record {
       children = subst (All (IsStepChild g drawn v)) (sym ended.children) (grown_children here);
-      whole = λ whole other covered at_there is. same_part r unifiers drawn v at turn t.turn_is other covered at_there is e.children (lifts whole);
+      whole = lifts;
       cause = why;
     }

@@ -3,18 +3,21 @@ use Rattle.std.proofs.Common.{◌≡◌, ◌<◌, ◌+◌, ℕ, zero, suc, List,
 use Rattle.std.specs.Prelude.{◌⊎◌, ◌↔◌, Bool, true, false, IsTrue, All, Any, Contains}
 use Rattle.std.proofs.lemmas.List.{take_more}
 use Rattle.std.proofs.lemmas.List.Elements.{All-nil, All-append, Contains-append_left, Contains-append_right, Contains-append_cases}
-use Rattle.fvn_base.proofs.Membership.{contains_here, contains_none, contains_cases}
+use Rattle.fvn_base.proofs.Membership.{contains_none, contains_cases}
 use Rattle.fvn_terms.specs.Substitution.{Substitution}
 use Rattle.fvn_terms.specs.Unifiers.{Problem}
 use Rattle.fvn_rewrite_rules.specs.declared.rule.Rule.{Rule}
 use Rattle.fvn_rewrite.specs.Usable.{Rewriting}
+use Rattle.fvn_forms.specs.Flat.{FlatTerm}
 use Rattle.fvn_cover.specs.declared.variant.Variant.{Variant}
+use Rattle.fvn_exploring.specs.Setting.{Setting}
+use Rattle.fvn_exploring.specs.Causes.{IsRuleProblem}
 use Rattle.fvn_exploring.specs.declared.ends.ExpandEnd.{ExpandEnd}
 use Rattle.fvn_exploring.specs.declared.ends.ExpandEnd.TheVariants.{Whole}
 use Rattle.fvn_exploring.specs.declared.ends.Expansion.{Expansion}
 use Rattle.fvn_narrow.specs.Settings.{narrowing_setting}
 use Rattle.fvn_narrow.specs.inner.Joining.{AreJoined}
-use Rattle.fvn_narrow.specs.inner.Turns.{Turn, IsStepChild, IsOfStep, EndsAs, LiftsInTurn, AreFound, IsAtPart, IsThrough, IsAmongFirst}
+use Rattle.fvn_narrow.specs.inner.Turns.{Turn, Try, try_of, IsStepChild, IsOfStep, EndsAs, TryLifts, TryLiftsUnless, TryLiftsByParts, TurnLifts, ForEach, AreFound, IsTryOf, IsThrough, IsAmongFirst}
 
 -- some of a list is some of a longer one
 any_left : {A : Type 0} {P : A → Type 0} (xs ys : List A) → Any P xs → Any P (xs ++ ys)
@@ -24,53 +27,111 @@ any_right : {A : Type 0} {P : A → Type 0} (xs ys : List A) → Any P ys → An
 any_right xs ys h = let c = Contains-append_right xs ys h.1 (h.0, h.2, h.3) in (c.0, h.1, c.1, c.2, h.4)
 
 module _ (r : Rewriting) (unifiers : ℕ) (drawn : Problem → Substitution → Type 0) (v : Variant) where
-  -- what was found in the turns that are covered, where none of them stopped
-  pub record AreSoFar (Covered : Turn → Type 0) (children : List Variant) : Type 0 where
-    pub children_are : All (IsStepChild (narrowing_setting r unifiers) drawn v) children
-    pub lift : (turn : Turn) → Covered turn → LiftsInTurn r unifiers drawn v turn children
+  abbrev g : Setting
+  g = narrowing_setting r unifiers
 
-  pub none_so_far : (Covered : Turn → Type 0) → ((turn : Turn) → Covered turn → ⊥) → AreSoFar Covered []
-  none_so_far Covered none = record { children_are = All-nil (IsStepChild (narrowing_setting r unifiers) drawn v); lift = λ turn c. absurd (none turn c) }
+  -- what was found so far, where nothing stopped
+  pub record AreSoFar (Holds : List Variant → Type 0) (children : List Variant) : Type 0 where
+    pub children_are : All (IsStepChild g drawn v) children
+    pub holds : Holds children
 
-  lifts_left : (before more : List Variant) (turn : Turn) → LiftsInTurn r unifiers drawn v turn before → LiftsInTurn r unifiers drawn v turn (before ++ more)
-  lifts_left before more turn h at is s c keeps meet = any_left before more (h at is s c keeps meet)
+  pub none_so_far : (Holds : List Variant → Type 0) → Holds [] → AreSoFar Holds []
+  none_so_far Holds h = record { children_are = All-nil (IsStepChild g drawn v); holds = h }
 
-  lifts_right : (before more : List Variant) (turn : Turn) → LiftsInTurn r unifiers drawn v turn more → LiftsInTurn r unifiers drawn v turn (before ++ more)
-  lifts_right before more turn h at is s c keeps meet = any_right before more (h at is s c keeps meet)
+  -- where nothing is found
+  pub nothing_found : (Holds : List Variant → Type 0) (e : Expansion) → e.children ≡ [] → e.end ≡ Whole → Holds e.children → AreFound r unifiers drawn v Holds e
+  nothing_found Holds e none whole h = record {
+    children = subst (All (IsStepChild g drawn v)) (sym none) (All-nil (IsStepChild g drawn v));
+    whole = λ q. h;
+    cause = subst (EndsAs g drawn (IsRuleProblem g v.terms) (IsOfStep g drawn v)) (sym whole) tt;
+  }
 
-  module _ (Covered Now : Turn → Type 0) (before : List Variant) (next : Expansion) (all : List Variant) (end : ExpandEnd) (so_far : AreSoFar Covered before) (found : AreFound r unifiers drawn v Now next) (j : AreJoined before next all end) where
-    all_children : All (IsStepChild (narrowing_setting r unifiers) drawn v) all
-    all_children = subst (All (IsStepChild (narrowing_setting r unifiers) drawn v)) (sym j.children) (All-append (IsStepChild (narrowing_setting r unifiers) drawn v) before next.children so_far.children_are found.children)
+  -- where nothing stopped
+  pub all_found : (Before Holds : List Variant → Type 0) (children : List Variant) → (Before children → Holds children) → AreSoFar Before children → AreFound r unifiers drawn v Holds record { children = children; end = Whole }
+  all_found Before Holds children f so_far = record { children = so_far.children_are; whole = λ e. f so_far.holds; cause = tt }
 
-    -- where the last ones did not stop
-    pub joined : (Both : Turn → Type 0) → ((turn : Turn) → Both turn → Covered turn ⊎ Now turn) → end ≡ Whole → AreSoFar Both all
-    joined Both either whole = record { children_are = all_children; lift = lift }
-      where
-        lifts : (turn : Turn) → Covered turn ⊎ Now turn → LiftsInTurn r unifiers drawn v turn (before ++ next.children)
-        lifts turn (inl c) = lifts_left before next.children turn (so_far.lift turn c)
-        lifts turn (inr c) = lifts_right before next.children turn (found.whole (sym j.end_is ∙ whole) turn c)
+  -- what is found also meets what follows from it
+  pub found_so : (Before Holds : List Variant → Type 0) (e : Expansion) → (Before e.children → Holds e.children) → AreFound r unifiers drawn v Before e → AreFound r unifiers drawn v Holds e
+  found_so Before Holds e f found = record { children = found.children; whole = λ q. f (found.whole q); cause = found.cause }
 
-        lift : (turn : Turn) → Both turn → LiftsInTurn r unifiers drawn v turn all
-        lift turn c = subst (LiftsInTurn r unifiers drawn v turn) (sym j.children) (lifts turn (either turn c))
+  module _ (Before Now : List Variant → Type 0) (before : List Variant) (next : Expansion) (all : List Variant) (end : ExpandEnd) (so_far : AreSoFar Before before) (found : AreFound r unifiers drawn v Now next) (j : AreJoined before next all end) where
+    all_children : All (IsStepChild g drawn v) all
+    all_children = subst (All (IsStepChild g drawn v)) (sym j.children) (All-append (IsStepChild g drawn v) before next.children so_far.children_are found.children)
+
+    module _ (Holds : List Variant → Type 0) (both : Before before → Now next.children → Holds (before ++ next.children)) where
+      holds_all : end ≡ Whole → Holds all
+      holds_all whole = subst Holds (sym j.children) (both so_far.holds (found.whole (sym j.end_is ∙ whole)))
+
+      -- where the last ones did not stop
+      pub joined : end ≡ Whole → AreSoFar Holds all
+      joined whole = record { children_are = all_children; holds = holds_all whole }
+
+      -- whether they did or not
+      pub both_found : AreFound r unifiers drawn v Holds record { children = all; end = end }
+      both_found = record {
+        children = all_children;
+        whole = holds_all;
+        cause = subst (EndsAs g drawn (IsRuleProblem g v.terms) (IsOfStep g drawn v)) (sym j.end_is) found.cause;
+      }
 
     -- where they stopped
-    pub stopped : (Both : Turn → Type 0) → (end ≡ Whole → ⊥) → AreFound r unifiers drawn v Both record { children = all; end = end }
-    stopped Both not_whole = record {
+    pub stopped : (Holds : List Variant → Type 0) → (end ≡ Whole → ⊥) → AreFound r unifiers drawn v Holds record { children = all; end = end }
+    stopped Holds not_whole = record {
       children = all_children;
       whole = λ e. absurd (not_whole e);
-      cause = subst (EndsAs (narrowing_setting r unifiers) drawn _ (IsOfStep (narrowing_setting r unifiers) drawn v)) (sym j.end_is) found.cause;
+      cause = subst (EndsAs g drawn (IsRuleProblem g v.terms) (IsOfStep g drawn v)) (sym j.end_is) found.cause;
     }
 
-  -- where none stopped
-  pub all_found : (Covered Both : Turn → Type 0) (children : List Variant) → ((turn : Turn) → Both turn → Covered turn) → AreSoFar Covered children → AreFound r unifiers drawn v Both record { children = children; end = Whole }
-  all_found Covered Both children covers so_far = record { children = so_far.children_are; whole = λ e turn c. so_far.lift turn (covers turn c); cause = tt }
+-- what holds where children come before or behind others
+pub record Grows {T : Type 0} (Holds : T → List Variant → Type 0) : Type 0 where
+  pub left : (before more : List Variant) (x : T) → Holds x before → Holds x (before ++ more)
+  pub right : (before more : List Variant) (x : T) → Holds x more → Holds x (before ++ more)
 
-  -- no turn, or only such as meet no instance
-  pub nothing_found : (Covered : Turn → Type 0) (e : Expansion) → e.children ≡ [] → e.end ≡ Whole → ((turn : Turn) → Covered turn → LiftsInTurn r unifiers drawn v turn e.children) → AreFound r unifiers drawn v Covered e
-  nothing_found Covered e none whole lift = record {
-    children = subst (All (IsStepChild (narrowing_setting r unifiers) drawn v)) (sym none) (All-nil (IsStepChild (narrowing_setting r unifiers) drawn v));
-    whole = λ q turn c. lift turn c;
-    cause = subst (EndsAs (narrowing_setting r unifiers) drawn _ (IsOfStep (narrowing_setting r unifiers) drawn v)) (sym whole) tt;
+-- for each of those that are covered by one of two
+pub for_both : {T : Type 0} (Holds : T → List Variant → Type 0) → Grows Holds → (Before Now Both : T → Type 0) → ((x : T) → Both x → Before x ⊎ Now x) → (before more : List Variant) →
+    ForEach Holds Before before → ForEach Holds Now more → ForEach Holds Both (before ++ more)
+for_both Holds grows Before Now Both either before more h k x c = elim (either x c) [ inl b ↦ grows.left before more x (h x b) | inr n ↦ grows.right before more x (k x n) ]
+
+-- what holds for one
+pub for_one : {T : Type 0} (Holds : T → List Variant → Type 0) (x : T) (children : List Variant) → Holds x children → ForEach Holds (λ (y : T). y ≡ x) children
+for_one Holds x children h y e = subst (λ z. Holds z children) (sym e) h
+
+-- what was found for some and what is found for others
+pub more_found : (r : Rewriting) (unifiers : ℕ) (drawn : Problem → Substitution → Type 0) (v : Variant) {T : Type 0} (Holds : T → List Variant → Type 0) → Grows Holds → (Before Now Both : T → Type 0) → ((x : T) → Both x → Before x ⊎ Now x) →
+    (before : List Variant) (next : Expansion) (all : List Variant) (end : ExpandEnd) → AreSoFar r unifiers drawn v (ForEach Holds Before) before → AreFound r unifiers drawn v (ForEach Holds Now) next → AreJoined before next all end → end ≡ Whole →
+    AreSoFar r unifiers drawn v (ForEach Holds Both) all
+more_found r unifiers drawn v Holds grows Before Now Both either before next all end so_far found j whole =
+    joined r unifiers drawn v (ForEach Holds Before) (ForEach Holds Now) before next all end so_far found j (ForEach Holds Both) (for_both Holds grows Before Now Both either before next.children) whole
+
+module _ (r : Rewriting) (unifiers : ℕ) (v : Variant) where
+  pub try_grows : Grows (TryLifts r unifiers v)
+  try_grows = record {
+    left = λ before more try h s c keeps meet. any_left before more (h s c keeps meet);
+    right = λ before more try h s c keeps meet. any_right before more (h s c keeps meet);
+  }
+
+  pub unless_grows : (passes : Bool) → Grows (TryLiftsUnless r unifiers v passes)
+  unless_grows passes = record {
+    left = λ before more try h. elim h [ inl k ↦ inl (try_grows.left before more try k) | inr m ↦ inr m ];
+    right = λ before more try h. elim h [ inl k ↦ inl (try_grows.right before more try k) | inr m ↦ inr m ];
+  }
+
+  pub parts_grow : Grows (TryLiftsByParts r unifiers v)
+  parts_grow = record {
+    left = λ before more try h. elim h [
+      | inl k ↦ inl (try_grows.left before more try k)
+      | inr m ↦ inr (m.0, λ f heads pair i rule needed s c keeps meet. any_left before more (m.1 f heads pair i rule needed s c keeps meet))
+    ];
+    right = λ before more try h. elim h [
+      | inl k ↦ inl (try_grows.right before more try k)
+      | inr m ↦ inr (m.0, λ f heads pair i rule needed s c keeps meet. any_right before more (m.1 f heads pair i rule needed s c keeps meet))
+    ];
+  }
+
+  pub turn_grows : Grows (TurnLifts r unifiers v)
+  turn_grows = record {
+    left = λ before more turn h at is alone. parts_grow.left before more (try_of at turn.rule) (h at is alone);
+    right = λ before more turn h at is alone. parts_grow.right before more (try_of at turn.rule) (h at is alone);
   }
 
 -- the last of the first ones, or an earlier one
@@ -85,11 +146,10 @@ last_or_earlier xs i x y within is c = go (Contains-append_cases (take i xs) (x 
         only h = elim (contains_cases x [] y h) [ inl e ↦ e | inr k ↦ absurd (contains_none y k) ]
 
 -- one rule more
-pub rule_more : (member : ℕ) (path : List ℕ) (rules : List Rule) (i : ℕ) (rule : Rule) → i < length rules → rule ≡ get_or rules i rule → (turn : Turn) → IsAtPart member path (take (i + 1) rules) turn →
-    IsAtPart member path (take i rules) turn ⊎ IsAtPart member path (rule ∷ []) turn
-rule_more member path rules i rule within is turn c = elim (last_or_earlier rules i rule turn.rule within is c.2) [
-  | inl h ↦ inl (c.0, c.1, h)
-  | inr e ↦ inr (c.0, c.1, subst (Contains (rule ∷ [])) e (contains_here rule []))
+pub rule_more : (at : FlatTerm) (rules : List Rule) (i : ℕ) (rule : Rule) → i < length rules → rule ≡ get_or rules i rule → (try : Try) → IsTryOf at (take (i + 1) rules) try → IsTryOf at (take i rules) try ⊎ (try ≡ try_of at rule)
+rule_more at rules i rule within is try c = elim (last_or_earlier rules i rule try.rule within is c.1) [
+  | inl h ↦ inl (c.0, h)
+  | inr e ↦ inr (λ k. record { at = c.0 k; rule = sym e k })
 ]
 
 -- one path more
@@ -100,7 +160,7 @@ path_more member paths i path within is turn c = elim (last_or_earlier paths i p
   | inr e ↦ inr (c.0, sym e)
 ]
 
-less_or_equal : (m n : ℕ) → m < n + 1 → (m < n) ⊎ (m ≡ n)
+pub less_or_equal : (m n : ℕ) → m < n + 1 → (m < n) ⊎ (m ≡ n)
 less_or_equal zero zero h = inr refl
 less_or_equal zero (suc n) h = inl (omega arith)
 less_or_equal (suc m) zero h = absurd (omega arith)

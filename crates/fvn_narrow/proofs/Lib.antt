@@ -2,7 +2,7 @@
 mod Turning
 mod Members
 mod Posed
-mod Once
+mod Beside
 mod Fit
 mod Steps
 mod Occurring
@@ -13,3 +13,6 @@ mod Joined
 mod Along
 mod Backwards
 mod Expanded
+mod Divided
+mod Two
+mod Whole

@@ -1,5 +1,5 @@
 -- The problem of a part and a left side may be given to a solver; where the two clash, nothing meets.
-use Rattle.std.proofs.Common.{◌≡◌, ◌<◌, ℕ, true, false, List, [], ◌∷◌, ◌++◌, length, nat_eq, refl, sym, ◌∙◌, subst, inl, inr, arith}
+use Rattle.std.proofs.Common.{◌≡◌, ◌<◌, ℕ, true, false, List, [], ◌∷◌, ◌++◌, length, nat_eq, refl, sym, ap, ◌∙◌, subst, inl, inr, arith}
 use Rattle.std.specs.Prelude.{◌⊎◌, All, Contains}
 use Rattle.std.proofs.lemmas.Bool.{eqb-true}
 use Rattle.std.proofs.lemmas.List.Elements.{All-nil, All-cons, Contains-append_cases}
@@ -15,6 +15,7 @@ use Rattle.fvn_forms.specs.Flat.{FlatTerm, plain}
 use Rattle.fvn_forms.specs.Good.{IsGood}
 use Rattle.fvn_forms.proofs.Eval.{canon_respects}
 use Rattle.fvn_flat.specs.Fits.{Fits}
+use Rattle.fvn_flat.specs.FlatPlaces.{with_beside}
 use Rattle.fvn_flat.specs.Problems.{variables, variables_of, plain_pairs, IsProblem}
 use Rattle.fvn_flat.specs.Solving.{IsGiven}
 use Rattle.fvn_flat.specs.declared.solver.Pairs.{Pairs}
@@ -22,19 +23,15 @@ use Rattle.fvn_flat.proofs.VariableLists.{variables_occur}
 use Rattle.fvn_cover.specs.declared.variant.Variant.{Variant}
 use Rattle.fvn_rewrite_laws.specs.Laws.{RuleLaws}
 use Rattle.fvn_rewrite.specs.Usable.{Rewriting, AreUsable, equations_by}
-use Rattle.fvn_exploring.specs.Children.{narrowed}
 use Rattle.fvn_exploring.specs.declared.ends.Expansion.{Expansion}
 use Rattle.fvn_exploring.specs.declared.ends.ExpandEnd.TheVariants.{Whole}
-use Rattle.fvn_lifting.specs.Lifted.{LiftsAt}
 use Rattle.fvn_places.specs.Clashes.{NeverMeet}
 use Rattle.fvn_places.proofs.PathFacts.{stands_at}
-use Rattle.fvn_narrow.specs.Settings.{narrowing_setting}
-use Rattle.fvn_narrow.specs.inner.Turns.{Turn, IsReady, IsTurnAt, IsAtPart, CanReplace, AreFound}
+use Rattle.fvn_narrow.specs.inner.Turns.{Turn, put_in, IsReady, CanStandBeside, IsTurnAt, CanReplace, try_of, TryLifts, AreFound}
 use Rattle.fvn_narrow.proofs.Turning.{IsFitTurn}
-use Rattle.fvn_narrow.proofs.Fit.{fit_turn, same_kind, right_keeps}
+use Rattle.fvn_narrow.proofs.Fit.{fit_turn, same_kind, put_keeps, right_stands, at_within}
 use Rattle.fvn_narrow.proofs.Children.{item_listed}
 use Rattle.fvn_narrow.proofs.Occurring.{occurs_at}
-use Rattle.fvn_narrow.proofs.Once.{same_part}
 use Rattle.fvn_narrow.proofs.Joined.{nothing_found}
 
 abbrev BothFit : Declarations → FlatTerm × FlatTerm → Type 0
@@ -64,17 +61,21 @@ module _ (r : Rewriting) (good : IsGood r.signature) (usable : AreUsable r.signa
   pub fit_here : IsFitTurn r v at turn
   fit_here = fit_turn r good usable rules v ready.flat.terms at turn t
 
-  pub can_replace : CanReplace d v.terms turn.member turn.path turn.rule.right
+  pub can_replace : CanReplace d v.terms turn.member turn.path (put_in d turn)
   can_replace = record {
     term = t.term;
     is = t.is;
-    can = record { at = at; leads = t.leads; fits = fit_here.right_fits; keeps = right_keeps r good usable rules v ready.flat.terms at turn t };
+    can = record { at = t.whole; leads = t.leads; fits = fit_here.given_fits; keeps = put_keeps r good usable rules v ready.flat.terms at turn t };
   }
+
+  -- the right side stands beside the others
+  pub stands : CanStandBeside d turn.beside turn.rule.right
+  stands = right_stands r good usable rules v ready.flat.terms at turn t
 
   number_below : (x : Var) → x.fresh ≡ true → Occurs x (plain at) ⊎ Occurs x (plain left) → x.name < next
   number_below x fresh (inl o) =
       let i = item_listed v.terms turn.member t.term t.is in
-      (ready.numbers x (inl (i.0, t.term, i.1, i.2, occurs_at x at at (stands_at turn.path t.term at t.leads) o))).high
+      (ready.numbers x (inl (i.0, t.term, i.1, i.2, occurs_at x t.whole t.whole (stands_at turn.path t.term t.whole t.leads) (at_within r good usable rules v ready.flat.terms at turn t x o)))).high
   number_below x fresh (inr o) = go (fit_here.old x (inl o))
     where
       go : (x.fresh ≡ false) ⊎ (x.name ≡ 0) → x.name < next
@@ -92,13 +93,12 @@ module _ (r : Rewriting) (good : IsGood r.signature) (usable : AreUsable r.signa
       }
 
   -- where they clash nothing is found
-  pub found_none : (unifiers : ℕ) (drawn : Problem → Substitution → Type 0) → NeverMeet d at left → (e : Expansion) → e.children ≡ [] → e.end ≡ Whole → AreFound r unifiers drawn v (IsAtPart turn.member turn.path (turn.rule ∷ [])) e
-  found_none unifiers drawn never e none whole =
-      nothing_found r unifiers drawn v (IsAtPart turn.member turn.path (turn.rule ∷ [])) e none whole
-      (λ other covered there is. same_part r unifiers drawn v at turn t other covered there is e.children lifts)
-    where
-      lifts : LiftsAt (narrowing_setting r unifiers) v.vars (narrowed v) at left e.children
-      lifts s c keeps meet = absurd (never s c (canon_respects d meet.equal))
+  pub found_none : (unifiers : ℕ) (drawn : Problem → Substitution → Type 0) → NeverMeet d at left → (e : Expansion) → e.children ≡ [] → e.end ≡ Whole → AreFound r unifiers drawn v (TryLifts r unifiers v (try_of at turn.rule)) e
+  found_none unifiers drawn never e none whole = nothing_found r unifiers drawn v (TryLifts r unifiers v (try_of at turn.rule)) e none whole (λ s c keeps meet. absurd (never s c (canon_respects d meet.equal)))
+
+-- what is made with what stands there is what is put in
+pub given_is : (d e : Declarations) (turn : Turn) (given : FlatTerm) → e ≡ d → given ≡ with_beside e turn.beside turn.rule.right → given ≡ put_in d turn
+given_is d e turn given same is = is ∙ ap (λ (x : Declarations). with_beside x turn.beside turn.rule.right) same
 
 -- a list without a member
 pub no_unifiers : {A : Type 0} (l : List A) → nat_eq (length l) 0 ≡ true → l ≡ []

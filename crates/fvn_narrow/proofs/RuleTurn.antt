@@ -32,7 +32,7 @@ use Rattle.fvn_narrow_children.specs.Starts.{IsNumberedUpTo}
 use Rattle.fvn_narrow_children.specs.Growing.{IsGrown, IsDealtWith}
 use Rattle.fvn_places.proofs.PathFacts.{stands_at}
 use Rattle.fvn_narrow.specs.Settings.{narrowing_setting}
-use Rattle.fvn_narrow.specs.inner.Turns.{Turn, IsReady, AreMembers}
+use Rattle.fvn_narrow.specs.inner.Turns.{Turn, put_in, IsReady, AreMembers}
 use Rattle.fvn_narrow.proofs.Turning.{problem_at, IsFitTurn, IsGivenIn}
 use Rattle.fvn_narrow.proofs.Occurring.{occurs_at}
 use Rattle.fvn_narrow.proofs.Children.{item_listed, all_reached}
@@ -96,7 +96,7 @@ module _ (r : Rewriting) (good : IsGood r.signature) (completed : IsCompleted r.
   pub at_numbered : (x : Var) → Occurs x (plain at) → IsNumberedUpTo next x
   at_numbered x o =
       let i = item_listed v.terms turn.member t.turn_is.term t.turn_is.is in
-      ready.numbers x (inl (i.0, t.turn_is.term, i.1, i.2, occurs_at x at at (stands_at turn.path t.turn_is.term at t.turn_is.leads) o))
+      ready.numbers x (inl (i.0, t.turn_is.term, i.1, i.2, occurs_at x t.turn_is.whole t.turn_is.whole (stands_at turn.path t.turn_is.term t.turn_is.whole t.turn_is.leads) (t.within x o)))
 
   share_none : ShareNone (plain at) (plain left)
   share_none x o i = old_is_not_new x next (t.old x (inl i)) (at_numbered x o)
@@ -113,7 +113,7 @@ module _ (r : Rewriting) (good : IsGood r.signature) (completed : IsCompleted r.
         new = λ y o. let n = s.numbered o.0 y o.1 o.2 in (n.0, n.1);
       }
 
-  module _ (members : List FlatTerm) (m : AreMembers d v.terms turn.member turn.path turn.rule.right members) (children : List Variant) where
+  module _ (members : List FlatTerm) (m : AreMembers d v.terms turn.member turn.path (put_in d turn) members) (children : List Variant) where
     turned_by : (s : Bindings) → Contains solved.unifiers s → IsDealtWith r v members s children → IsTurned g v.vars (narrowed v) children (substitution s)
     turned_by s i dealt = record {
       to = successor r good drawn v next ready at turn t members m s u;

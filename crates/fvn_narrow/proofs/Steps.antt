@@ -20,7 +20,7 @@ use Rattle.fvn_forms.proofs.Eval.{eval_apply, canon_plain}
 use Rattle.fvn_forms.proofs.Instances.{eval_canon}
 use Rattle.fvn_flat.specs.Bindings.{Bindings, bound, form_or, value}
 use Rattle.fvn_flat.specs.Drawn.{OccursInValues}
-use Rattle.fvn_flat.specs.FlatPlaces.{IsReplaced}
+use Rattle.fvn_flat.specs.FlatPlaces.{IsReplaced, with_beside}
 use Rattle.fvn_flat.specs.Forms.{head_of}
 use Rattle.fvn_flat.specs.Problems.{variables_of, plain_pairs, flat_pairs}
 use Rattle.fvn_flat.specs.Solving.{substitution, Binds}
@@ -33,7 +33,7 @@ use Rattle.fvn_places.specs.Paths.{LeadsTo}
 use Rattle.fvn_places.specs.Putting.{IsPut}
 use Rattle.fvn_narrow_children.specs.Starts.{IsNumberedUpTo}
 use Rattle.fvn_places.proofs.Replacing.{split_at}
-use Rattle.fvn_narrow.specs.inner.Turns.{Turn, IsReady, AreMembers}
+use Rattle.fvn_narrow.specs.inner.Turns.{Turn, put_in, IsReady, AreMembers}
 use Rattle.fvn_narrow.proofs.Turning.{problem_at, IsFitTurn, IsGivenIn}
 
 module _ (d : Declarations) where
@@ -71,7 +71,7 @@ module _ (r : Rewriting) (good : IsGood r.signature) (drawn : Problem → Substi
   abbrev right : FlatTerm
   right = turn.rule.right
 
-  module _ (members : List FlatTerm) (m : AreMembers d v.terms turn.member turn.path right members) (s : Bindings) (u : IsGivenIn r drawn next (problem_at at left) s) where
+  module _ (members : List FlatTerm) (m : AreMembers d v.terms turn.member turn.path (put_in d turn) members) (s : Bindings) (u : IsGivenIn r drawn next (problem_at at left) s) where
     abbrev problem : Problem
     problem = problem_at at left
 
@@ -99,8 +99,8 @@ module _ (r : Rewriting) (good : IsGood r.signature) (drawn : Problem → Substi
     abbrev pub successor : Narrowed
     successor = record { terms = map (inst d (value s)) members; values = λ x. plain (inst d (value s) (value v.subst x)) }
 
-    pub is_put : IsPut d turn.path at m.term right m.new
-    is_put = m.put_there at (subst (λ w. LeadsTo turn.path w at) (one_item t.turn_is.term m.term (sym t.turn_is.is ∙ m.is)) t.turn_is.leads)
+    pub is_put : IsPut d turn.path t.turn_is.whole m.term (put_in d turn) m.new
+    is_put = m.put_there t.turn_is.whole (subst (λ w. LeadsTo turn.path w t.turn_is.whole) (one_item t.turn_is.term m.term (sym t.turn_is.is ∙ m.is)) t.turn_is.leads)
       where
         one_item : (a b : FlatTerm) → Some a ≡ Some b → a ≡ b
         one_item a b e = cc
@@ -131,10 +131,10 @@ module _ (r : Rewriting) (good : IsGood r.signature) (drawn : Problem → Substi
       term = m.term;
       after = drop (turn.member + 1) v.terms;
       listed = split_at v.terms turn.member m.term m.is;
-      whole = at;
+      whole = t.turn_is.whole;
       at = at;
-      beside = None;
-      part = refl;
+      beside = turn.beside;
+      part = t.turn_is.part;
       no_variable = λ x e. let q : None ≡ Some t.turn_is.operator = sym (ap head_of e) ∙ t.turn_is.heads in cc;
       l = left;
       r = right;
@@ -150,7 +150,7 @@ module _ (r : Rewriting) (good : IsGood r.signature) (drawn : Problem → Substi
       others_stay = λ x n. unbound_stays problem s u.binds x (λ c. n (subst (λ p. Contains (variables_of p) x) (sym problem_is) c));
       new = λ x o i. new_is_new x (subst (λ p. OccursInValues (variables_of p) (substitution s) x) problem_is o) (ready.numbers x i);
       replaced = is_put.replaced;
-      replaces = subst (λ w. IsReplaced at w m.term is_put.replaced) (sym (same_form d right t.right_fits.flat)) is_put.replaces;
+      replaces = subst (λ w. IsReplaced t.turn_is.whole (with_beside d turn.beside w) m.term is_put.replaced) (sym (same_form d right t.right_fits.flat)) is_put.replaces;
       terms = terms_are;
       values = values_equal;
     }

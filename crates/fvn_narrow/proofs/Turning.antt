@@ -1,7 +1,8 @@
 -- What is known of a turn, and of a unifier that is given in it.
-use Rattle.std.proofs.Common.{◌≤◌, ℕ, [], ◌∷◌}
+use Rattle.std.proofs.Common.{◌⊎◌, ◌≤◌, ℕ, [], ◌∷◌}
 use Rattle.fvn_base.specs.declared.limits.TheConstants.{NEXT_FRESH}
-use Rattle.fvn_terms.specs.Substitution.{Substitution}
+use Rattle.fvn_terms.specs.declared.plain.Var.{Var}
+use Rattle.fvn_terms.specs.Substitution.{Substitution, Occurs}
 use Rattle.fvn_terms.specs.Unifiers.{Problem, IsUnifier}
 use Rattle.fvn_forms.specs.Flat.{FlatTerm, plain}
 use Rattle.fvn_flat.specs.Bindings.{Bindings, BindingsFit}
@@ -11,7 +12,7 @@ use Rattle.fvn_flat.specs.Solving.{substitution, Binds, IsNumbered}
 use Rattle.fvn_cover.specs.declared.variant.Variant.{Variant}
 use Rattle.fvn_rewrite.specs.Usable.{Rewriting, equations_by}
 use Rattle.fvn_rewrite_rules.specs.Given.{HasOldVariables}
-use Rattle.fvn_narrow.specs.inner.Turns.{Turn, IsTurnAt}
+use Rattle.fvn_narrow.specs.inner.Turns.{Turn, put_in, IsTurnAt}
 
 -- the problem of a part and a left side
 abbrev pub problem_at : FlatTerm → FlatTerm → Problem
@@ -22,9 +23,13 @@ pub record IsFitTurn (r : Rewriting) (v : Variant) (at : FlatTerm) (turn : Turn)
   pub turn_is : IsTurnAt r v at turn
   pub rule : IsRuleOf r.signature (equations_by r) turn.rule.left turn.rule.right
   pub old : HasOldVariables turn.rule
+  pub whole_fits : Fits r.signature turn_is.whole
   pub at_fits : Fits r.signature at
   pub left_fits : Fits r.signature turn.rule.left
   pub right_fits : Fits r.signature turn.rule.right
+  pub given_fits : Fits r.signature (put_in r.signature turn)
+  pub given_occurs : (x : Var) → Occurs x (plain (put_in r.signature turn)) → Occurs x (plain turn.rule.right) ⊎ Occurs x (plain turn_is.whole)
+  pub within : (x : Var) → Occurs x (plain at) → Occurs x (plain turn_is.whole)
 
 -- what a solver promises of a unifier of the part and the left side
 pub record IsGivenIn (r : Rewriting) (drawn : Problem → Substitution → Type 0) (next : ℕ) (problem : Problem) (s : Bindings) : Type 0 where

@@ -2,12 +2,13 @@
 ghost use Rattle.std.specs.Prelude.{◌<◌, length, IfOk};
 ghost use Rattle.fvn_exploring.specs.Expansions.{IsExpandable, IsExpansionOf};
 ghost use Rattle.fvn_narrow.specs.Settings.{narrowing_setting};
-ghost use Rattle.fvn_narrow.specs.inner.Turns.{IsReady, IsPartAt, IsAtPart, IsAlong, IsInMember, IsAny, AreFound};
-ghost use Rattle.fvn_narrow.specs.inner.Joining.{AreJoined};
+ghost use Rattle.fvn_narrow.specs.inner.Turns.{IsReady, IsAlong, IsInMember, IsAny, ForEach, TurnLifts, AreFound};
 
+use crate::dividing::at_form;
 use crate::posing::is_whole;
-use crate::stepping::{Part, by_rule};
+use crate::stepping::Part;
 use crate::tools::{Solves, Tools};
+use crate::trying::with_more;
 use fvn_base::Seq;
 use fvn_cover::Variant;
 use fvn_exploring::{ExpandEnd, Expansion};
@@ -17,53 +18,8 @@ use fvn_narrow_children::{Start, no_children, some_reducible, start_of};
 use fvn_places::{form_at, paths};
 use fvn_rewrite_coherence::rules_are_coherent;
 use fvn_rewrite_laws::sequences_are_lawful;
-use fvn_rewrite_rules::Rule;
 use fvn_terms::NoMemory;
 use std::alloc::Global;
-
-// The children so far with those of one more expansion, and its end.
-fn with_more(children: Vec<Variant>, next: Expansion) -> Result<(Vec<Variant>, ExpandEnd), NoMemory>
-    ensures { IfOk result (λ r. AreJoined children.items next r.0.items r.1) }
-{
-    let (more, end) = next.into_parts();
-    let mut rest = more.into_vec();
-    let mut all = children;
-    all.append(&mut rest)?;
-    Ok((all, end))
-}
-
-// The children at a part by these rules, up to the first that stops.
-fn by_rules<S: Solves>(
-    tools: &Tools<'_, '_, S>,
-    alloc: Global,
-    start: &Start,
-    part: &Part<'_>,
-    rules: &[Rule],
-) -> Result<Expansion, NoMemory>
-    requires ready { IsReady tools.now.rewriter.now start.now.variant start.now.next }
-    requires part { IsPartAt tools.now.rewriter.now start.now.variant part.now.member part.now.path.now
-        part.now.at.now rules.now }
-    ensures { IfOk result (AreFound tools.now.rewriter.now (S.most_unifiers tools.now.solver.now)
-        (S.drawn tools.now.solver.now) start.now.variant
-        (IsAtPart part.now.member part.now.path.now rules.now)) }
-{
-    let mut children = Vec::new(alloc);
-    for rule in rules {
-        let next = by_rule(tools, alloc, start, part, rule)?;
-        let (all, end) = with_more(children, next)?;
-        children = all;
-        if !is_whole(&end) {
-            return Ok(Expansion {
-                children: Seq::from_vec(children),
-                end,
-            });
-        }
-    }
-    Ok(Expansion {
-        children: Seq::from_vec(children),
-        end: ExpandEnd::Whole,
-    })
-}
 
 // The children at the part to which a path leads.
 fn at_path<S: Solves>(
@@ -76,7 +32,9 @@ fn at_path<S: Solves>(
     requires ready { IsReady tools.now.rewriter.now start.now.variant start.now.next }
     requires member { member < length start.now.variant.terms }
     ensures { IfOk result (AreFound tools.now.rewriter.now (S.most_unifiers tools.now.solver.now)
-        (S.drawn tools.now.solver.now) start.now.variant (IsAlong member path.now)) }
+        (S.drawn tools.now.solver.now) start.now.variant
+        (ForEach (TurnLifts tools.now.rewriter.now (S.most_unifiers tools.now.solver.now)
+        start.now.variant) (IsAlong member path.now))) }
 {
     let term = &start.variant.terms.as_slice()[member];
     let Some(at) = form_at(term, path) else {
@@ -85,8 +43,13 @@ fn at_path<S: Solves>(
     let Some(f) = at.head() else {
         return Ok(no_children(alloc));
     };
-    let part = Part { member, path, at };
-    let e = by_rules(tools, alloc, start, &part, tools.rewriter.rules().headed(f))?;
+    let part = Part {
+        member,
+        path,
+        at,
+        beside: None,
+    };
+    let e = at_form(tools, alloc, start, &part, f)?;
     Ok(e)
 }
 
@@ -100,7 +63,9 @@ fn in_member<S: Solves>(
     requires ready { IsReady tools.now.rewriter.now start.now.variant start.now.next }
     requires member { member < length start.now.variant.terms }
     ensures { IfOk result (AreFound tools.now.rewriter.now (S.most_unifiers tools.now.solver.now)
-        (S.drawn tools.now.solver.now) start.now.variant (IsInMember member)) }
+        (S.drawn tools.now.solver.now) start.now.variant
+        (ForEach (TurnLifts tools.now.rewriter.now (S.most_unifiers tools.now.solver.now)
+        start.now.variant) (IsInMember member))) }
 {
     let all_paths = paths(alloc, &start.variant.terms.as_slice()[member])?;
     let mut children = Vec::new(alloc);
@@ -129,7 +94,9 @@ fn in_members<S: Solves>(
 ) -> Result<Expansion, NoMemory>
     requires ready { IsReady tools.now.rewriter.now start.now.variant start.now.next }
     ensures { IfOk result (AreFound tools.now.rewriter.now (S.most_unifiers tools.now.solver.now)
-        (S.drawn tools.now.solver.now) start.now.variant IsAny) }
+        (S.drawn tools.now.solver.now) start.now.variant
+        (ForEach (TurnLifts tools.now.rewriter.now (S.most_unifiers tools.now.solver.now)
+        start.now.variant) IsAny)) }
 {
     let mut children = Vec::new(alloc);
     for member in 0..start.variant.terms.len() {

@@ -78,7 +78,8 @@ module _ (d : Declarations) where
   abbrev values : Substitution → Var → FlatTerm
   values s x = canon d (s x)
 
-  instance_head : (f : OpId) → identity (axioms d f) ≡ None → (t : FlatTerm) → Settled d t → head_of t ≡ Some f → (s : Substitution) → head_of (canon d (apply s (plain t))) ≡ Some f
+  -- an operator without identity heads each instance of what it heads
+  pub instance_head : (f : OpId) → identity (axioms d f) ≡ None → (t : FlatTerm) → Settled d t → head_of t ≡ Some f → (s : Substitution) → head_of (canon d (apply s (plain t))) ≡ Some f
   instance_head f no_identity t h e s = ap head_of (eval_apply d fvar s (plain t)) ∙ head_kept (values s) (λ x. canon_settled d (s x)) f no_identity t h e
 
   -- two operators without identities never meet

@@ -7,4 +7,4 @@ mod putting;
 
 pub use clashes::clash;
 pub use leading::{form_at, paths};
-pub use putting::{put, with_one_replaced};
+pub use putting::{add_copies, put, with_one_replaced};

@@ -11,8 +11,8 @@ use fvn_signature::Signature;
 use fvn_terms::{NoMemory, OpId};
 use std::alloc::Global;
 
-// Adds copies of the forms.
-fn add_copies(alloc: Global, copies: Vec<Flat>, ts: &[Flat]) -> Result<Vec<Flat>, NoMemory>
+/// The list with copies of the forms behind it.
+pub fn add_copies(alloc: Global, copies: Vec<Flat>, ts: &[Flat]) -> Result<Vec<Flat>, NoMemory>
     ensures { IfOk result (λ all. all.items ≡ copies.items ++ ts.now) }
 {
     let mut all = copies;

@@ -36,6 +36,11 @@ pub holds_where_some : {A : Type 0} (P : Type 0) (r : Option A) → IfSome r (λ
 holds_where_some P None h e = absurd (false≢true e)
 holds_where_some P (Some s) h e = h
 
+-- what holds where there is one, by what it gives
+pub some_weaker : {A : Type 0} (P Q : Type 0) → (P → Q) → (r : Option A) → IfSome r (λ s. P) → IfSome r (λ s. Q)
+some_weaker P Q f None h = tt
+some_weaker P Q f (Some s) h = f h
+
 module _ (d : Declarations) (t : NodeTable) (s : State) where
   -- what decides which way commutative nodes meet are nodes of the table
   pub swap_within : IsOrdered t.nodes → (r : Option (ℕ × ℕ)) → IsUndecided d t s r → IfSome r (λ p. (p.0 < length t.nodes) × (p.1 < length t.nodes))

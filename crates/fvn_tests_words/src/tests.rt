@@ -149,7 +149,7 @@ fn words_of(alloc: Global, text: &str) -> Result<Vec<String>, NoMemory> {
 
 fn told(alloc: Global, words: &[String]) -> Result<String, NoMemory> {
     let mut out = String::new(alloc);
-    match read_command(alloc, words)? {
+    match read_command(words) {
         Some(command) => say_command(&mut out, alloc, command)?,
         None => say(&mut out, "none")?,
     }

@@ -1,5 +1,6 @@
 -- What is promised of a run follows from its outcome.
 use Rattle.std.proofs.Common.{◌≡◌, ◌≤◌, ◌<◌, ◌+◌, ◌⊎◌, ℕ, List, ◌++◌, length, Option, Some, None, refl, sym, ap, ◌∙◌, subst, inl, inr, arith, append-nil, length-append}
+use Rattle.std.specs.Prelude.{unwrap_or}
 use Rattle.std.specs.Io.KnownBytes.{IsAtEnd}
 use Rattle.fvn_base.proofs.Options.{Some-injective}
 use Rattle.fvn_base.specs.declared.limits.TheConstants.{MODULE_BYTES}
@@ -13,9 +14,9 @@ use Rattle.fvn_cmd_vunify.specs.Solutions as modulo
 use Rattle.fvn_cmd_laws.proofs.Verified.{verdict_answering}
 use Rattle.fvn_cmd_laws.proofs.Unified.{end_answering}
 use Rattle.fvn_cmd_laws.proofs.Weighed.{weighing_answering}
-use Rattle.fvn_tool.specs.Words.{Command, IsCommand, AreNoCommand, ReadNothing}
+use Rattle.fvn_tool.specs.Words.{Command, IsCommand, AreNoCommand, ReadsModule, ReadNothing, own_text, text_for}
 use Rattle.fvn_tool.specs.Runs.{Outside, Run, Leaves, HasFailed}
-use Rattle.fvn_tool.specs.Asked.{Question, summary, unifiers, verdict, termination, term_variants, theory_unifiers, Asked, IsAsked, AsksNothing, IsRefused}
+use Rattle.fvn_tool.specs.Asked.{Question, summary, unifiers, verdict, termination, term_variants, theory_unifiers, count, Asked, IsShort, IsAsked, AsksNothing, IsRefused}
 use Rattle.fvn_tool.specs.Answered.{AnswerTo, status_of, Answers, IsAnswered, IsReply}
 use Rattle.fvn_tool.specs.Outcomes.{usage_line, IsOutcome, no_command, too_long, replied}
 use Rattle.fvn_tool.specs.Claims.{RefusesWords, Asks, AnswersCommand, IsReport}
@@ -36,17 +37,24 @@ told_count : (bytes : List ℕ) (rest : Option (List ℕ)) (n : ℕ) → TakesCo
 told_count bytes None n h = cc
 told_count bytes (Some r) n h = let e = ap length (Some-injective h.2) in let a = length-append h.0 r in let b = h.1 in grind arith
 
--- what comes of a command over the bytes is a reply to it
-pub came : (words : List (List ℕ)) (source : Outside) (bytes : List ℕ) (command : Command) → source.before ≡ Some bytes → IsCommand words command →
-    (s : Status) (t : List ℕ) → IsOutcome words source s t → IsReply bytes command s t
+-- where the bytes that are read are one, the text is
+same_text : (own : Option (List ℕ)) (read bytes : List ℕ) → (own ≡ None → read ≡ bytes) → unwrap_or own read ≡ unwrap_or own bytes
+same_text None read bytes h = h refl
+same_text (Some t) read bytes h = refl
+
+-- what comes of a command about a text is a reply to it
+pub came : (words : List (List ℕ)) (source : Outside) (bytes : List ℕ) (command : Command) → (ReadsModule command → source.before ≡ Some bytes) → IsCommand words command →
+    (s : Status) (t : List ℕ) → IsOutcome words source s t → IsReply (text_for command bytes) command s t
 came words source bytes command told is_command s t (no_command none is) = absurd (none command is_command)
-came words source bytes command told is_command s t (too_long c h n is) =
-    let many : MODULE_BYTES + 1 ≤ length bytes = told_count bytes source.after (MODULE_BYTES + 1) (subst (λ l. TakesCount l source.after (MODULE_BYTES + 1)) told n) in
-    inl (inl ((λ short. omega (arith, many, short)), (refl, is)))
-came words source bytes command told is_command s t (replied c b h n e r) =
-    let b_is : b ≡ bytes = told_all bytes b source.after (subst (λ l. Takes l source.after b) told n) e in
+came words source bytes command told is_command s t (too_long c h r n is) =
+    let reads : ReadsModule command = subst ReadsModule (one_command words c command h is_command) r in
+    let many : MODULE_BYTES + 1 ≤ length bytes = told_count bytes source.after (MODULE_BYTES + 1) (subst (λ l. TakesCount l source.after (MODULE_BYTES + 1)) (told reads) n) in
+    let read : text_for command bytes ≡ bytes = ap (λ own. unwrap_or own bytes) reads in
+    inl (inl ((λ short. let few : length bytes ≤ MODULE_BYTES = subst IsShort read short in omega (arith, many, few)), (refl, is)))
+came words source bytes command told is_command s t (replied c b h n r) =
     let c_is : c ≡ command = one_command words c command h is_command in
-    subst (λ x. IsReply x command s t) b_is (subst (λ x. IsReply b x s t) c_is r)
+    let all : ReadsModule c → b ≡ bytes = λ reads. told_all bytes b source.after (subst (λ l. Takes l source.after b) (told (subst ReadsModule c_is reads)) (n reads).0) (n reads).1 in
+    subst (λ x. IsReply (text_for x bytes) x s t) c_is (subst (λ x. IsReply x c s t) (same_text (own_text c) b bytes all) r)
 
 -- Replies
 
@@ -57,6 +65,7 @@ status_answering (verdict p b steps) v = verdict_answering v
 status_answering (termination w) found = weighing_answering found
 status_answering (term_variants t reach) found = end_answering (of_terms.end_of reach found)
 status_answering (theory_unifiers p reach) found = end_answering (modulo.end_of reach found)
+status_answering (count p) found = end_answering found.end
 
 answer_answering : (a : Asked) (s : Status) (t : List ℕ) → Answers a s t → IsAnswering s
 answer_answering a s t h = subst IsAnswering (sym h.status_is) (status_answering a.question h.answer)
@@ -82,18 +91,18 @@ module _ (bytes : List ℕ) (c : Command) (s : Status) (t : List ℕ) where
 
 pub outcome_usage : (words : List (List ℕ)) (source : Outside) → AreNoCommand words → (s : Status) (t : List ℕ) → IsOutcome words source s t → Is Usage usage_line s t
 outcome_usage words source none s t (no_command h is) = (refl, is)
-outcome_usage words source none s t (too_long command h n is) = absurd (none command h)
-outcome_usage words source none s t (replied command bytes h n e r) = absurd (none command h)
+outcome_usage words source none s t (too_long command h r n is) = absurd (none command h)
+outcome_usage words source none s t (replied command bytes h n r) = absurd (none command h)
 
 usage_only : (words : List (List ℕ)) (source : Outside) (s : Status) (t : List ℕ) → s ≡ Usage → IsOutcome words source s t → AreNoCommand words
 usage_only words source s t e (no_command h is) = h
-usage_only words source s t e (too_long command h n is) = cc
-usage_only words source s t e (replied command bytes h n a r) = absurd (reply_not_usage bytes command s t e r)
+usage_only words source s t e (too_long command h r n is) = cc
+usage_only words source s t e (replied command bytes h n r) = absurd (reply_not_usage (text_for command bytes) command s t e r)
 
 -- A run
 
 module _ (run : Run) (h : Leaves (IsOutcome run.words run.source) run.status run.sink) where
-  refuses_words : (AreNoCommand run.words → (run.status ≡ Usage) ⊎ ((run.status ≡ WriteFault) ⊎ (run.status ≡ NoMemory))) → RefusesWords run
+  refuses_words : (AreNoCommand run.words → (run.status ≡ Usage) ⊎ (run.status ≡ WriteFault)) → RefusesWords run
   refuses_words always = record {
     only = λ e. let g = Leaves-goes (IsOutcome run.words run.source) run.status run.sink (subst IsSpoken (sym e) tt) h in usage_only run.words run.source run.status g.0 e g.1;
     always = always;
@@ -101,40 +110,44 @@ module _ (run : Run) (h : Leaves (IsOutcome run.words run.source) run.status run
   }
 
   module _ (questions : QuestionsAreDetermined) (command : Command) (bytes : List ℕ) (asks : Asks run command bytes) where
-    coming : (u : Status) (t : List ℕ) → IsOutcome run.words run.source u t → IsReply bytes command u t
+    -- the text that the command is about
+    abbrev about : List ℕ
+    about = text_for command bytes
+
+    coming : (u : Status) (t : List ℕ) → IsOutcome run.words run.source u t → IsReply about command u t
     coming = came run.words run.source bytes command asks.told asks.command_is
 
     -- the reply that is left, in other words
-    weaker : (Goes : Status → List ℕ → Type 0) → ((u : Status) (t : List ℕ) → IsReply bytes command u t → Goes u t) → Leaves Goes run.status run.sink
+    weaker : (Goes : Status → List ℕ → Type 0) → ((u : Status) (t : List ℕ) → IsReply about command u t → Goes u t) → Leaves Goes run.status run.sink
     weaker Goes w = Leaves-weaker (IsOutcome run.words run.source) Goes (λ u t o. w u t (coming u t o)) run.status run.sink h
 
-    left : IsSpoken run.status → (t : List ℕ) × IsReply bytes command run.status t
+    left : IsSpoken run.status → (t : List ℕ) × IsReply about command run.status t
     left k = let g = Leaves-goes (IsOutcome run.words run.source) run.status run.sink k h in (g.0, coming run.status g.0 g.1)
 
-    refused_then : AsksNothing bytes command → (u : Status) (t : List ℕ) → IsReply bytes command u t → IsRefused bytes command u t
+    refused_then : AsksNothing about command → (u : Status) (t : List ℕ) → IsReply about command u t → IsRefused about command u t
     refused_then none u t (inl r) = r
     refused_then none u t (inr a) = absurd (none a.0 a.1.0)
 
-    answered_then : (a : Asked) → IsAsked bytes command a → (u : Status) (t : List ℕ) → IsReply bytes command u t → Answers a u t
-    answered_then a asked u t (inl r) = absurd (questions.not_both bytes command a asked u t r)
-    answered_then a asked u t (inr b) = subst (λ x. Answers x u t) (questions.one_question bytes command b.0 a b.1.0 asked) b.1.1
+    answered_then : (a : Asked) → IsAsked about command a → (u : Status) (t : List ℕ) → IsReply about command u t → Answers a u t
+    answered_then a asked u t (inl r) = absurd (questions.not_both about command a asked u t r)
+    answered_then a asked u t (inr b) = subst (λ x. Answers x u t) (questions.one_question about command b.0 a b.1.0 asked) b.1.1
 
-    answers : AnswersCommand run command bytes
+    answers : AnswersCommand run command about
     answers = record {
-      refused = λ none. weaker (IsRefused bytes command) (refused_then none);
+      refused = λ none. weaker (IsRefused about command) (refused_then none);
       refused_only = λ refusing a asked.
           let g = left (refusing_spoken run.status refusing) in
-          questions.not_both bytes command a asked run.status g.0 (refused_of bytes command run.status g.0 refusing g.1);
+          questions.not_both about command a asked run.status g.0 (refused_of about command run.status g.0 refusing g.1);
       answered = λ a asked. weaker (Answers a) (answered_then a asked);
       answered_only = λ answering.
           let g = left (answering_spoken run.status answering) in
-          let b = answered_of bytes command run.status g.0 answering g.1 in
+          let b = answered_of about command run.status g.0 answering g.1 in
           (b.0, b.1.0);
     }
 
 -- the outcome that the steps give, what stays the same and the causes of faults are all that there is to prove of a run
 pub report : VerdictsAreExact → AnswersAreExact → ExploredAnswersAreExact → QuestionsAreDetermined → (run : Run) → Leaves (IsGivenOutcome run.words run.source) run.status run.sink → (run.status ≡ ReadFault → HasFailed run.source) → (run.status ≡ WriteFault → HasFailed run.sink) →
-    (AreNoCommand run.words → (run.status ≡ Usage) ⊎ ((run.status ≡ WriteFault) ⊎ (run.status ≡ NoMemory))) →
+    (AreNoCommand run.words → (run.status ≡ Usage) ⊎ (run.status ≡ WriteFault)) →
     (ReadNothing run.words → run.source.after ≡ run.source.before) → (IsSilent run.status → run.sink.after ≡ run.sink.before) →
     (run.source.faults_before < run.source.faults_after → run.status ≡ ReadFault) → IsReport run
 report verdicts exact explored questions run given read write always unread unwritten failed =

@@ -13,7 +13,7 @@ use Rattle.fvn_cmd_vunify.specs.Solutions as modulo
 use Rattle.fvn_cmd_laws.proofs.Verified.{verdict_answering}
 use Rattle.fvn_cmd_laws.proofs.Unified.{end_answering}
 use Rattle.fvn_cmd_laws.proofs.Weighed.{weighing_answering}
-use Rattle.fvn_tool.specs.Words.{Command, check, unify, verify, terminates, variants, vunify, IsCommand, AreNoCommand}
+use Rattle.fvn_tool.specs.Words.{Command, check, unify, verify, terminates, variants, vunify, work, IsCommand, AreNoCommand, ReadsModule}
 use Rattle.fvn_tool.specs.Runs.{Outside, Leaves}
 use Rattle.fvn_tool.specs.Asked.{too_long_line, IsRefused}
 use Rattle.fvn_tool.specs.Outcomes.{usage_line}
@@ -23,8 +23,8 @@ module _ (words : List (List ℕ)) (source : Outside) (status : Status) (text : 
   pub usage_outcome : status ≡ Usage → AreNoCommand words → text ≡ usage_line → IsGivenOutcome words source status text
   usage_outcome e none is = subst (λ s. IsGivenOutcome words source s text) (sym e) (is_usage none is)
 
-  pub too_long_outcome : (command : Command) → status ≡ ModuleRefused → IsCommand words command → TakesCount source.before source.after (MODULE_BYTES + 1) → text ≡ too_long_line → IsGivenOutcome words source status text
-  too_long_outcome command e is_command taken is = subst (λ s. IsGivenOutcome words source s text) (sym e) (is_long command is_command taken is)
+  pub too_long_outcome : (command : Command) → status ≡ ModuleRefused → IsCommand words command → ReadsModule command → TakesCount source.before source.after (MODULE_BYTES + 1) → text ≡ too_long_line → IsGivenOutcome words source status text
+  too_long_outcome command e is_command reads taken is = subst (λ s. IsGivenOutcome words source s text) (sym e) (is_long command is_command reads taken is)
 
 -- Statuses.
 
@@ -91,11 +91,14 @@ reply_spoken (variants word reach) bytes status text (inr a) =
 reply_spoken (vunify word reach) bytes status text (inl r) = refusing_spoken status (refusal_refusing r)
 reply_spoken (vunify word reach) bytes status text (inr a) =
     answering_spoken status (subst IsAnswering (sym a.2.1.status_is) (end_answering (modulo.end_of reach a.2.1.found)))
+reply_spoken (work number) bytes status text (inl r) = refusing_spoken status (refusal_refusing r)
+reply_spoken (work number) bytes status text (inr a) =
+    answering_spoken status (subst IsAnswering (sym a.2.1.status_is) (end_answering a.2.1.found.end))
 
 pub outcome_spoken : {words : List (List ℕ)} {source : Outside} {status : Status} {text : List ℕ} → IsGivenOutcome words source status text → IsSpoken status
 outcome_spoken (is_usage h is) = tt
-outcome_spoken (is_long command h t is) = tt
-outcome_spoken (is_replied command bytes h t e f r) = reply_spoken command bytes _ _ r
+outcome_spoken (is_long command h r t is) = tt
+outcome_spoken (is_replied command bytes h t f r) = reply_spoken command bytes _ _ r
 
 -- a text that goes with its status was written
 pub leaves_whole : (Goes : Status → List ℕ → Type 0) (status : Status) (text : List ℕ) (sink : Outside) → IsSpoken status → Goes status text → Appends sink.before sink.after text → Leaves Goes status sink

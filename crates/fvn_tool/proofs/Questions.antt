@@ -9,8 +9,9 @@ use Rattle.fvn_cmd.specs.Asking.{AllStand}
 use Rattle.fvn_cmd.specs.Refusing.{IsRefusal, IsFirstRefusal, IsFirstWordRefusal}
 use Rattle.fvn_cmd.specs.Laws.{ReadersAreLawful, RefusalsAreLawful}
 use Rattle.fvn_module_loading.specs.Loading.{IsLoaded, AreNotLoaded}
-use Rattle.fvn_tool.specs.Words.{Command, check, unify, verify, terminates, variants, vunify}
-use Rattle.fvn_tool.specs.Asked.{Question, unifiers, verdict, termination, term_variants, theory_unifiers, Asked, words_of, IsQuestion, IsShort, IsAsked, IsRefused}
+use Rattle.fvn_cmd_work.specs.Made.{work_problem}
+use Rattle.fvn_tool.specs.Words.{Command, check, unify, verify, terminates, variants, vunify, work}
+use Rattle.fvn_tool.specs.Asked.{Question, unifiers, verdict, termination, term_variants, theory_unifiers, count, Asked, words_of, IsQuestion, IsShort, IsAsked, IsRefused}
 use Rattle.fvn_tool.specs.Laws.{QuestionsAreDetermined, RefusalsAreRight}
 
 -- the words of what is asked are what they should be
@@ -21,6 +22,7 @@ stand m (verify problem bindings steps) q h = ((h.0, h.2.0), ((h.0, h.1, (h.2.0,
 stand m (terminates weights) q h = ((h.0, h.1.0), tt)
 stand m (variants term reach) q h = ((h.0, h.1.0), tt)
 stand m (vunify problem reach) q h = ((h.0, h.1.0), tt)
+stand m (work number) q h = ((h.0, h.1.0), tt)
 
 module _ (laws : ReadersAreLawful) where
   question_one : (m : Contents) (c : Command) (q r : Question) → IsQuestion m c q → IsQuestion m c r → q ≡ r
@@ -37,6 +39,8 @@ module _ (laws : ReadersAreLawful) where
       h.1.1 ∙ ap (λ t. term_variants t reach) (laws.terms m.signature m.names term h.0 k.0 h.1.0 k.1.0) ∙ sym k.1.1
   question_one m (vunify problem reach) q r h k =
       h.1.1 ∙ ap (λ p. theory_unifiers p reach) (laws.problems m.signature m.names problem h.0 k.0 h.1.0 k.1.0) ∙ sym k.1.1
+  question_one m (work number) q r h k =
+      h.1.1 ∙ ap count (laws.problems m.signature m.names (work_problem number) h.0 k.0 h.1.0 k.1.0) ∙ sym k.1.1
 
   one_question : (bytes : List ℕ) (c : Command) (a b : Asked) → IsAsked bytes c a → IsAsked bytes c b → a ≡ b
   one_question bytes c a b h k =

@@ -2,15 +2,15 @@
 use Rattle.std.proofs.Common.{ℕ, List, refl, inl, inr}
 use Rattle.fvn_cmd.specs.declared.status.Status.{Status}
 use Rattle.fvn_cmd_laws.specs.Laws.{VerdictsAreExact, AnswersAreExact, ExploredAnswersAreExact}
-use Rattle.fvn_tool.specs.Words.{Command, check, unify, verify, terminates, variants, vunify}
+use Rattle.fvn_tool.specs.Words.{Command, check, unify, verify, terminates, variants, vunify, work, text_for}
 use Rattle.fvn_tool.specs.Runs.{Outside}
-use Rattle.fvn_tool.specs.Asked.{summary, unifiers, verdict, termination, term_variants, theory_unifiers, IsShort}
+use Rattle.fvn_tool.specs.Asked.{summary, unifiers, verdict, termination, term_variants, theory_unifiers, count, IsShort}
 use Rattle.fvn_tool.specs.Answered.{IsReply}
 use Rattle.fvn_tool.specs.Outcomes.{IsOutcome, no_command, too_long, replied}
 use Rattle.fvn_tool.specs.inner.Steps.{IsCommandReply, IsGivenOutcome, is_usage, is_long, is_replied}
 
 module _ (verdicts : VerdictsAreExact) (answers : AnswersAreExact) (explored : ExploredAnswersAreExact) where
-  reply : (c : Command) (bytes : List ℕ) → IsShort bytes → (s : Status) (t : List ℕ) → IsCommandReply c bytes s t → IsReply bytes c s t
+  reply : (c : Command) (bytes : List ℕ) → IsShort (text_for c bytes) → (s : Status) (t : List ℕ) → IsCommandReply c bytes s t → IsReply (text_for c bytes) c s t
   reply check bytes short s t (inl r) = inl (inr (short, r))
   reply check bytes short s t (inr a) =
       inr (
@@ -26,7 +26,7 @@ module _ (verdicts : VerdictsAreExact) (answers : AnswersAreExact) (explored : E
         record { contents = a.0; question = unifiers a.1 },
         (
           record { short = short; loaded = a.2.0.module_text; question_is = (a.1, (a.2.0.problem_text, refl)) },
-          record { answer = a.2.1.found; right = a.2.1.solution; status_is = a.2.1.status_is; shown = a.2.1.shown; whole = answers.whole a.0 a.1 s t a.2.1 },
+          record { answer = a.2.1.found; right = a.2.1.solution; status_is = a.2.1.status_is; shown = a.2.1.shown; whole = answers.whole a.0 a.1 a.2.1.found a.2.1.solution },
         ),
       )
   reply (verify problem bindings steps) bytes short s t (inl r) = inl (inr (short, r))
@@ -88,8 +88,17 @@ module _ (verdicts : VerdictsAreExact) (answers : AnswersAreExact) (explored : E
           },
         ),
       )
+  reply (work number) bytes short s t (inl r) = inl (inr (short, r))
+  reply (work number) bytes short s t (inr a) =
+      inr (
+        record { contents = a.0; question = count a.1 },
+        (
+          record { short = short; loaded = a.2.0.module_text; question_is = (a.1, (a.2.0.problem_text, refl)) },
+          record { answer = a.2.1.found; right = a.2.1.solution; status_is = a.2.1.status_is; shown = a.2.1.shown; whole = answers.whole a.0 a.1 a.2.1.found a.2.1.solution },
+        ),
+      )
 
   pub given_outcome : (words : List (List ℕ)) (source : Outside) (s : Status) (t : List ℕ) → IsGivenOutcome words source s t → IsOutcome words source s t
   given_outcome words source s t (is_usage none is) = no_command none is
-  given_outcome words source s t (is_long c e n is) = too_long c e n is
-  given_outcome words source s t (is_replied c bytes e n d f r) = replied c bytes e n d (reply c bytes f s t r)
+  given_outcome words source s t (is_long c e r n is) = too_long c e r n is
+  given_outcome words source s t (is_replied c bytes e n f r) = replied c bytes e n (reply c bytes f s t r)

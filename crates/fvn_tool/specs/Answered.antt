@@ -13,9 +13,10 @@ use Rattle.fvn_cmd_unify.specs.Ends.{status_of_end, StaysWithinBounds}
 use Rattle.fvn_cmd_unify.specs.Solutions.{Found, IsWhole, IsSolution, Shows}
 use Rattle.fvn_cmd_variants.specs.Solutions as of_terms
 use Rattle.fvn_cmd_vunify.specs.Solutions as modulo
+use Rattle.fvn_cmd_work.specs.Replies.{ShowsEnd}
 use Rattle.fvn_cmd_laws.specs.Verified.{IsDecided, AllStayWithin}
 use Rattle.fvn_tool.specs.Words.{Command}
-use Rattle.fvn_tool.specs.Asked.{Question, summary, unifiers, verdict, termination, term_variants, theory_unifiers, Asked, IsAsked, IsRefused}
+use Rattle.fvn_tool.specs.Asked.{Question, summary, unifiers, verdict, termination, term_variants, theory_unifiers, count, Asked, IsAsked, IsRefused}
 
 -- what a question is answered with: the first equation that loses a sort, if one does; unifiers and the end of the search
 -- for them; a verdict; the first fault of weights, if they have one; or an exploration, and what was solved in it
@@ -26,6 +27,7 @@ AnswerTo (verdict p b steps) = Verdict
 AnswerTo (termination w) = Option WeighFault
 AnswerTo (term_variants t reach) = of_terms.Found
 AnswerTo (theory_unifiers p reach) = modulo.Found
+AnswerTo (count p) = Found
 
 -- the status that goes with an answer
 abbrev pub status_of : (q : Question) → AnswerTo q → Status
@@ -35,6 +37,7 @@ status_of (verdict p b steps) v = status_of_verdict v
 status_of (termination w) found = status_of_weighing found
 status_of (term_variants t reach) found = status_of_end (of_terms.end_of reach found)
 status_of (theory_unifiers p reach) found = status_of_end (modulo.end_of reach found)
+status_of (count p) found = status_of_end found.end
 
 module _ (m : Contents) where
   -- of the module, the answer is right
@@ -45,6 +48,7 @@ module _ (m : Contents) where
   IsRight (termination w) found = IsWeighed m w found
   IsRight (term_variants t reach) found = of_terms.IsSolution m t reach found
   IsRight (theory_unifiers p reach) found = modulo.IsSolution m p reach found
+  IsRight (count p) found = IsSolution m p found
 
   -- the text shows the answer
   abbrev pub IsShownBy : (q : Question) → AnswerTo q → List ℕ → Type 0
@@ -54,6 +58,7 @@ module _ (m : Contents) where
   IsShownBy (termination w) found text = IsWeighingLine m found text
   IsShownBy (term_variants t reach) found text = of_terms.Shows m t reach found text
   IsShownBy (theory_unifiers p reach) found text = modulo.Shows m p reach found text
+  IsShownBy (count p) found text = ShowsEnd m found.end text
 
   -- where no bound is met on the way, none ended the answer
   abbrev pub IsWholeUnlessBound : (q : Question) → AnswerTo q → Type 0
@@ -63,6 +68,7 @@ module _ (m : Contents) where
   IsWholeUnlessBound (termination w) found = Unit {0}
   IsWholeUnlessBound (term_variants t reach) found = of_terms.StaysWithinBounds m t reach found → of_terms.IsWhole found
   IsWholeUnlessBound (theory_unifiers p reach) found = modulo.StaysWithinBounds m p reach found → modulo.IsSolvedWhole found
+  IsWholeUnlessBound (count p) found = StaysWithinBounds m p → IsWhole found
 
 -- This status and this text answer what is asked: there is a right answer, the status is its own, the text shows it, and
 -- where no bound is met, none ended it.

@@ -21,11 +21,13 @@ use Rattle.fvn_cmd_verify.specs.Replies.{verify_words}
 use Rattle.fvn_cmd_unify.specs.Replies.{unify_words}
 use Rattle.fvn_cmd_exploring.specs.declared.reach.Reach.{Reach}
 use Rattle.fvn_cmd_variants.specs.Replies.{variants_words}
-use Rattle.fvn_tool.specs.Words.{Command, check, unify, verify, terminates, variants, vunify}
+use Rattle.fvn_cmd_work.specs.Made.{work_problem}
+use Rattle.fvn_cmd_work.specs.Replies.{work_words}
+use Rattle.fvn_tool.specs.Words.{Command, check, unify, verify, terminates, variants, vunify, work}
 
 -- a question about a module: how much it declares, the unifiers of a problem, whether bindings solve one, with a limit on
 -- the steps from each side, whether weights show that its equations terminate, or, searched so far, the variants of a term
--- and the unifiers of a problem in the theory
+-- and the unifiers of a problem in the theory; or how many unifiers a problem has
 pub data Question : Type 0 where
   summary : Question
   unifiers : (p : Problem) → Question
@@ -33,6 +35,7 @@ pub data Question : Type 0 where
   termination : (w : Weights) → Question
   term_variants : (t : Query) (reach : Reach) → Question
   theory_unifiers : (p : Problem) (reach : Reach) → Question
+  count : (p : Problem) → Question
 
 -- what is asked: a module, and a question about it
 pub record Asked : Type 0 where
@@ -47,6 +50,7 @@ words_of (verify problem bindings steps) = verify_words problem bindings
 words_of (terminates weights) = terminates_words weights
 words_of (variants term reach) = variants_words term
 words_of (vunify problem reach) = unify_words problem
+words_of (work number) = work_words number
 
 -- in the module, the command asks this question
 abbrev pub IsQuestion : Contents → Command → Question → Type 0
@@ -59,6 +63,7 @@ IsQuestion m (terminates weights) q = (w : Weights) × (IsWeights m.signature m.
 IsQuestion m (variants term reach) q = (t : Query) × (IsQuery m.signature m.names term t × (q ≡ term_variants t reach))
 IsQuestion m (vunify problem reach) q =
     (p : Problem) × (IsProblem m.signature m.names problem p × (q ≡ theory_unifiers p reach))
+IsQuestion m (work number) q = (p : Problem) × (IsProblem m.signature m.names (work_problem number) p × (q ≡ count p))
 
 -- a text of a module that is not too long
 abbrev pub IsShort : List ℕ → Type 0

@@ -3,24 +3,24 @@ use Rattle.std.specs.Prelude.{◌≡◌, ◌<◌, ◌⊎◌, ℕ, List, Some}
 use Rattle.fvn_cmd.specs.declared.status.Status.TheVariants.{Usage, ReadFault, WriteFault, NoMemory}
 use Rattle.fvn_cmd.specs.Statuses.{IsSilent, IsSpoken, IsAnswering, IsRefusing}
 use Rattle.fvn_cmd.specs.Texts.{Is}
-use Rattle.fvn_tool.specs.Words.{Command, IsCommand, AreNoCommand, ReadNothing}
+use Rattle.fvn_tool.specs.Words.{Command, IsCommand, AreNoCommand, ReadsModule, ReadNothing, text_for}
 use Rattle.fvn_tool.specs.Runs.{Run, Leaves, HasFailed}
 use Rattle.fvn_tool.specs.Asked.{Asked, IsAsked, AsksNothing, IsRefused}
 use Rattle.fvn_tool.specs.Answered.{Answers}
 use Rattle.fvn_tool.specs.Outcomes.{usage_line, IsOutcome}
 
--- the words are refused exactly where they are no command; then nothing else can come but a failed write or want of memory
+-- the words are refused exactly where they are no command; then nothing else can come but a failed write
 pub record RefusesWords (run : Run) : Type 0 where
   pub only : run.status ≡ Usage → AreNoCommand run.words
-  pub always : AreNoCommand run.words → (run.status ≡ Usage) ⊎ ((run.status ≡ WriteFault) ⊎ (run.status ≡ NoMemory))
+  pub always : AreNoCommand run.words → (run.status ≡ Usage) ⊎ (run.status ≡ WriteFault)
   pub text : AreNoCommand run.words → Leaves (Is Usage usage_line) run.status run.sink
 
--- the words are this command, and the source told these bytes
+-- the words are this command, and where it reads, the source told these bytes
 pub record Asks (run : Run) (command : Command) (bytes : List ℕ) : Type 0 where
   pub command_is : IsCommand run.words command
-  pub told : run.source.before ≡ Some bytes
+  pub told : ReadsModule command → run.source.before ≡ Some bytes
 
--- What a run of a command over the bytes of a module leaves: a refusal exactly where nothing is asked, with the line of the
+-- What a run of a command about the text of a module leaves: a refusal exactly where nothing is asked, with the line of the
 -- first fault, and else an answer to what is asked.
 pub record AnswersCommand (run : Run) (command : Command) (bytes : List ℕ) : Type 0 where
   pub refused : AsksNothing bytes command → Leaves (IsRefused bytes command) run.status run.sink
@@ -45,4 +45,5 @@ pub record IsReport (run : Run) : Type 0 where
   -- words that are no command
   pub usage : RefusesWords run
   -- what each command answers
-  pub answers : (command : Command) (bytes : List ℕ) → Asks run command bytes → AnswersCommand run command bytes
+  pub answers : (command : Command) (bytes : List ℕ) → Asks run command bytes →
+      AnswersCommand run command (text_for command bytes)

@@ -10,15 +10,17 @@ use Rattle.fvn_cmd.specs.Asking.{AllStand}
 use Rattle.fvn_cmd.specs.Refusing.{IsFirstRefusal, IsFirstWordRefusal}
 use Rattle.fvn_cmd_check.specs.Checks.{told_lines}
 use Rattle.fvn_cmd_unify.specs.Replies.{IsAnswer}
-use Rattle.fvn_cmd_laws.specs.Unified.{IsNothingExact, HasFewUnifiers}
+use Rattle.fvn_answer.specs.declared.end.End.TheVariants.{Complete}
+use Rattle.fvn_cmd_work.specs.Replies.{IsCount}
+use Rattle.fvn_cmd_laws.specs.Unified.{IsNothingExact, HasFewUnifiers, IsCountOfUnifiers}
 use Rattle.fvn_cmd_unify.specs.Solutions.{IsWhole}
 use Rattle.fvn_cmd_laws.specs.Verified.{AreOneIfConfluent, IsVerdictExact}
 use Rattle.fvn_cmd_laws.specs.Weighed.{IsWeighingExact}
 use Rattle.fvn_cmd_laws.specs.Explored.{IsVariantsExact, IsTheoryExact}
 use Rattle.fvn_cmd_variants.specs.Replies as of_terms
 use Rattle.fvn_cmd_vunify.specs.Replies as modulo
-use Rattle.fvn_tool.specs.Words.{Command, IsCommand}
-use Rattle.fvn_tool.specs.Asked.{Question, summary, unifiers, verdict, termination, term_variants, theory_unifiers, Asked, words_of, IsShort, IsAsked, IsRefused}
+use Rattle.fvn_tool.specs.Words.{Command, IsCommand, text_for}
+use Rattle.fvn_tool.specs.Asked.{Question, summary, unifiers, verdict, termination, term_variants, theory_unifiers, count, Asked, words_of, IsShort, IsAsked, IsRefused}
 use Rattle.fvn_tool.specs.Answered.{Answers}
 use Rattle.fvn_tool.specs.Runs.{Outside}
 use Rattle.fvn_tool.specs.Outcomes.{IsOutcome}
@@ -57,8 +59,8 @@ RefusalsAreRight =
 
 -- What an answer says of a question: of sorts, the lines that are right; of unifiers, that there are none exactly at
 -- Nothing, and all where no bound is met; of bindings, whether they solve the problem; of weights, whether they show that
--- the equations terminate; of variants and of unifiers in a theory, what the
--- status tells of the end of the search.
+-- the equations terminate; of variants and of unifiers in a theory, what the status tells of the end of the search; of a
+-- number of unifiers, what is said of these, and that each complete set of which none is an instance of another has so many.
 abbrev pub SaysExactly : Contents → Question → Status → List ℕ → Type 0
 SaysExactly m summary s t = (loss : Option ℕ) → IsLossOf m loss → Is Solved (told_lines m loss) s t
 SaysExactly m (unifiers p) s t =
@@ -69,6 +71,9 @@ SaysExactly m (term_variants q reach) s t =
     (a : of_terms.IsAnswer m q reach s t) × IsVariantsExact s a.found
 SaysExactly m (theory_unifiers p reach) s t =
     (a : modulo.IsAnswer m p reach s t) × IsTheoryExact m p s a.found
+SaysExactly m (count p) s t =
+    (a : IsCount m p s t) × (IsNothingExact m p s a.found × (HasFewUnifiers m p → IsWhole a.found)
+    × ((n : ℕ) → a.found.end ≡ Complete n → IsCountOfUnifiers m p n))
 
 -- Answers say what is so.
 abbrev pub AnswersSayExactly : Type 0
@@ -77,7 +82,7 @@ AnswersSayExactly =
 
 -- Two answers to a question agree: of sorts and of weights they are one; of unifiers and of variants each may give any set
 -- that is right, or meet any bound; verdicts are one where the equations are confluent and neither ended at a bound, since
--- a side may have a short way to a normal form and a long sequence besides.
+-- a side may have a short way to a normal form and a long sequence besides; numbers of unifiers are one where both are told.
 abbrev pub AgreeOn : Contents → Question → Status → List ℕ → Status → List ℕ → Type 0
 AgreeOn m summary s t u v = Is s t u v
 AgreeOn m (unifiers p) s t u v = Unit {0}
@@ -85,13 +90,14 @@ AgreeOn m (verdict p b steps) s t u v = AreOneIfConfluent m s t u v
 AgreeOn m (termination w) s t u v = Is s t u v
 AgreeOn m (term_variants q reach) s t u v = Unit {0}
 AgreeOn m (theory_unifiers p reach) s t u v = Unit {0}
+AgreeOn m (count p) s t u v = s ≡ Solved → u ≡ Solved → Is s t u v
 
 -- both answer what these words ask of these bytes, and agree
 pub record AgreeAsAnswers (words : List (List ℕ)) (bytes : List ℕ) (s : Status) (t : List ℕ) (u : Status) (v : List ℕ) : Type 0 where
   pub command : Command
   pub command_is : IsCommand words command
   pub asked : Asked
-  pub is_asked : IsAsked bytes command asked
+  pub is_asked : IsAsked (text_for command bytes) command asked
   pub first : Answers asked s t
   pub second : Answers asked u v
   pub agree : AgreeOn asked.contents asked.question s t u v

@@ -62,6 +62,7 @@ pub fn outcomes_are_determined()
 {
     sorts_are_told_once();
     verdicts_are_exact();
+    answers_are_exact();
     weighings_are_exact();
     questions_are_determined();
 }

@@ -1,5 +1,5 @@
 //! The top call.
-ghost use Rattle.std.specs.Prelude.{◌≡◌, ◌<◌, ◌⊎◌, map, string_bytes, ◌≢◌, IfOk, IfErr, IsErrOf};
+ghost use Rattle.std.specs.Prelude.{◌≡◌, ◌<◌, ◌⊎◌, map, string_bytes, ◌≢◌, IfOk, IfErr, IsOk, IsErrOf};
 ghost use Rattle.fvn_outside.specs.Faults.{Rose, NeverFails};
 ghost use Rattle.fvn_tool.specs.Words.{AreNoCommand, ReadNothing};
 ghost use Rattle.fvn_cmd.specs.Texts.{bytes_of};
@@ -9,10 +9,12 @@ ghost use Rattle.fvn_tool.specs.Claims.{IsReport};
 ghost use Rattle.fvn_tool.specs.inner.Steps.{IsGivenOutcome};
 
 use crate::laws::questions_are_determined;
+use crate::words::Heard;
 use crate::{answer, words};
 use fvn_base::limits::MODULE_BYTES;
 use fvn_cmd::{Answer, Status};
 use fvn_cmd_laws::{answers_are_exact, explored_answers_are_exact, verdicts_are_exact};
+use fvn_cmd_work::work_reply;
 use fvn_cover::Gate;
 use fvn_outside::{ReadAll, Sink, Source, WriteFailed, read_all, write_all};
 use fvn_terms::NoMemory;
@@ -20,7 +22,7 @@ use std::alloc::Global;
 use std::string::String;
 use std::thread::Threads;
 
-// Reads the module where the words are a command, and answers; a status alone where nothing is to be written.
+// Reads the module where the words are a command over one, and answers; a status alone where nothing is to be written.
 fn respond<R: Threads + Sync, G: Gate, S: Source>(
     rt: &R,
     gate: &G,
@@ -28,8 +30,8 @@ fn respond<R: Threads + Sync, G: Gate, S: Source>(
     words: &[String],
     source: &mut S,
 ) -> Result<Answer, Status>
-    ensures unread { AreNoCommand (map string_bytes words.now) → source.new ≡ source.old }
-    ensures usage { AreNoCommand (map string_bytes words.now) → IfErr result (λ s. s ≡ Status.NoMemory) }
+    ensures unread { ReadNothing (map string_bytes words.now) → source.new ≡ source.old }
+    ensures usage { AreNoCommand (map string_bytes words.now) → IsOk result }
     ensures outcome { IfOk result (λ a. IsGivenOutcome (map string_bytes words.now)
         (seen S.left S.faults source.old source.new) a.status (bytes_of a.text)) }
 
@@ -40,20 +42,20 @@ fn respond<R: Threads + Sync, G: Gate, S: Source>(
     ensures failed_read { S.faults source.old < S.faults source.new →
         IsErrOf result Status.ReadFault }
 {
-    let heard = match words::read_command(alloc, words) {
-        Err(NoMemory) => return Err(Status::NoMemory),
-        Ok(heard) => heard,
-    };
-    let Some(command) = heard else {
-        return Ok(answer::usage());
-    };
-    match read_all(alloc, source, MODULE_BYTES) {
-        Err(ReadAll::Fault) => Err(Status::ReadFault),
-        Err(ReadAll::NoMemory) => Err(Status::NoMemory),
-        Err(ReadAll::TooLong) => Ok(answer::too_long()),
-        Ok(bytes) => match answer::reply(rt, gate, alloc, &bytes, command) {
+    match words::hear(words) {
+        Heard::NoCommand => Ok(answer::usage()),
+        Heard::Work(number) => match work_reply(alloc, number) {
             Err(NoMemory) => Err(Status::NoMemory),
             Ok(answer) => Ok(answer),
+        },
+        Heard::OverModule(command) => match read_all(alloc, source, MODULE_BYTES) {
+            Err(ReadAll::Fault) => Err(Status::ReadFault),
+            Err(ReadAll::NoMemory) => Err(Status::NoMemory),
+            Err(ReadAll::TooLong) => Ok(answer::too_long()),
+            Ok(bytes) => match answer::reply(rt, gate, alloc, &bytes, command) {
+                Err(NoMemory) => Err(Status::NoMemory),
+                Ok(answer) => Ok(answer),
+            },
         },
     }
 }
@@ -67,15 +69,14 @@ fn conclude<R: Threads + Sync, G: Gate, S: Source, K: Sink>(
     source: &mut S,
     out: &mut K,
 ) -> Status
-    ensures unread { AreNoCommand (map string_bytes words.now) → source.new ≡ source.old }
+    ensures unread { ReadNothing (map string_bytes words.now) → source.new ≡ source.old }
     ensures unwritten { IsSilent result → out.new ≡ out.old }
     ensures outcome { Leaves
         (IsGivenOutcome (map string_bytes words.now)
         (seen S.left S.faults source.old source.new))
         result (seen K.written K.faults out.old out.new) }
     ensures usage { AreNoCommand (map string_bytes words.now) →
-        (result ≡ Status.Usage)
-        ⊎ ((result ≡ Status.WriteFault) ⊎ (result ≡ Status.NoMemory)) }
+        (result ≡ Status.Usage) ⊎ (result ≡ Status.WriteFault) }
 
     ensures read_fault { result ≡ Status.ReadFault →
         Rose (S.faults source.old) (S.faults source.new) }

@@ -1,17 +1,15 @@
 //! Reading the words of the command line.
-ghost use Rattle.std.specs.Prelude.{◌≡◌, ℕ, List, map, string_bytes, IfOk};
+ghost use Rattle.std.specs.Prelude.{◌≡◌, ℕ, List, map, string_bytes};
 ghost use Rattle.fvn_cmd_words.specs.Words as grammar;
 ghost use Rattle.fvn_cmd_words.specs.Told as told;
 ghost use Rattle.fvn_tool.specs.Words.{as_told};
 ghost use Rattle.fvn_tool.specs.inner.Reading.{IsHeard};
 
 use fvn_cmd_exploring::Reach;
-use fvn_cmd_words::{Command as Asked, Reach as Told};
-use fvn_terms::NoMemory;
-use std::alloc::Global;
+use fvn_cmd_words::{Command as Asked, Reach as Told, read_command};
 use std::string::String;
 
-/// What the words ask of a module.
+/// What the words ask of a module that is read.
 #[derive(Clone, Copy)]
 pub(crate) enum Command<'a> {
     /// To tell how much a module declares.
@@ -28,6 +26,17 @@ pub(crate) enum Command<'a> {
     Vunify(&'a [u8], Reach, u32),
 }
 
+/// What the words ask.
+#[derive(Clone, Copy)]
+pub(crate) enum Heard<'a> {
+    /// Nothing that is a command.
+    NoCommand,
+    /// To count the unifiers of a problem that is made of a number.
+    Work(u64),
+    /// Something of a module that is read.
+    OverModule(Command<'a>),
+}
+
 // How far variants are searched for.
 fn reach(told: Told) -> Reach
     ensures { as_told result ≡ told }
@@ -39,33 +48,35 @@ fn reach(told: Told) -> Reach
     }
 }
 
-// What is asked of a module; nothing for `work`, which is not answered yet.
-fn asked_of_module(asked: Asked<'_>) -> Option<Command<'_>>
+// What a command of the words means.
+fn meaning(asked: Asked<'_>) -> Heard<'_>
     requires { told.IsWithin asked }
     ensures { (words : List (List ℕ)) → grammar.IsCommand words (told.meant asked.entry) → IsHeard words result }
 {
     match asked {
-        Asked::Check => Some(Command::Check),
-        Asked::Unify(problem) => Some(Command::Unify(problem)),
-        Asked::Verify(problem, bindings, steps) => Some(Command::Verify(problem, bindings, steps)),
-        Asked::Terminates(weights) => Some(Command::Terminates(weights)),
+        Asked::Check => Heard::OverModule(Command::Check),
+        Asked::Unify(problem) => Heard::OverModule(Command::Unify(problem)),
+        Asked::Verify(problem, bindings, steps) => {
+            Heard::OverModule(Command::Verify(problem, bindings, steps))
+        }
+        Asked::Terminates(weights) => Heard::OverModule(Command::Terminates(weights)),
         Asked::Variants(term, far, workers) => {
-            Some(Command::Variants(term, reach(far), workers as u32))
+            Heard::OverModule(Command::Variants(term, reach(far), workers as u32))
         }
         Asked::Vunify(problem, far, workers) => {
-            Some(Command::Vunify(problem, reach(far), workers as u32))
+            Heard::OverModule(Command::Vunify(problem, reach(far), workers as u32))
         }
-        Asked::Work(_) => None,
+        Asked::Work(number) => Heard::Work(number),
     }
 }
 
-/// The command that the words are; nothing exactly where they are none.
-pub(crate) fn read_command(alloc: Global, words: &[String]) -> Result<Option<Command<'_>>, NoMemory>
-    ensures { IfOk result (IsHeard (map string_bytes words.now)) }
+/// What the words ask; no command exactly where they are none.
+pub(crate) fn hear(words: &[String]) -> Heard<'_>
+    ensures { IsHeard (map string_bytes words.now) result }
 {
-    let read = fvn_cmd_words::read_command(alloc, words)?;
+    let read = read_command(words);
     match read {
-        None => Ok(None),
-        Some(asked) => Ok(asked_of_module(asked)),
+        None => Heard::NoCommand,
+        Some(asked) => meaning(asked),
     }
 }

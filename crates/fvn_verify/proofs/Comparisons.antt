@@ -48,6 +48,7 @@ module _ (g : Setting) where
     left_form = h.left_form;
     right_form = h.right_form;
     differ = h.differ;
+    instances = h.instances;
     found = all_formed h.after p h.found left right;
     apart = h.apart;
   }
@@ -68,6 +69,7 @@ module _ (g : Setting) where
     left_form = e.left_form;
     right_form = e.right_form;
     differ = e.differ;
+    instances = e.instances;
     found = All-nil Formed;
     apart = e.apart;
   }

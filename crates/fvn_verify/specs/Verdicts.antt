@@ -75,7 +75,7 @@ module _ (g : Setting) where
   MeetInForm p = (f : FlatTerm) × (IsFormOf p.0 f × IsFormOf p.1 f)
 
   -- The pair with this number is the first whose forms differ modulo the axioms, and these are they; forms of all sides
-  -- were found.
+  -- were found. Its sides, with their variables replaced, differ modulo the axioms themselves.
   -- Where the equations are confluent, the sides of this pair are then not equal in the theory.
   pub record IsFirstDifference (pairs : List (Plain × Plain)) (number : ℕ) (left right : FlatTerm) : Type 0 where
     pub before : List (Plain × Plain)
@@ -87,6 +87,7 @@ module _ (g : Setting) where
     pub left_form : IsFormOf pair.0 left
     pub right_form : IsFormOf pair.1 right
     pub differ : BEqual g.declarations (plain left) (plain right) → ⊥
+    pub instances : BEqual g.declarations (instance g.by pair.0) (instance g.by pair.1) → ⊥
     pub found : All HasForm (sides_in_turn after)
     pub apart : IsConfluent g.declarations g.equations → AreEqual g.declarations g.equations g.by pair → ⊥
 

@@ -4,7 +4,16 @@ ghost use Rattle.fvn_terms.specs.Plain.{term};
 ghost use Rattle.fvn_terms.specs.Signature.{KeepsKinds, IsTerm};
 ghost use Rattle.fvn_terms.specs.Substitution.{value};
 ghost use Rattle.fvn_verify.specs.Verdicts.{IsFormOf};
-ghost use Rattle.fvn_verify.specs.inner.Comparing.{under, AreKinded, IsSideAs, IsDifference, IsCompared, earlier};
+ghost use Rattle.fvn_verify.specs.inner.Comparing.{
+  under,
+  AreKinded,
+  IsSideAs,
+  IsFlatForm,
+  HasTwoInstances,
+  IsDifference,
+  IsCompared,
+  earlier,
+};
 
 use crate::verdict::Verdict;
 use fvn_flat::{Flat, Normal};
@@ -23,26 +32,41 @@ pub enum Compared {
     Ended(Verdict),
 }
 
-// The normal form of a side under a substitution, or how the search for it ended.
-fn form_of(
+// The flat form of a side under a substitution.
+fn flat_form(
     alloc: Global,
     rewriter: &Rewriter<'_>,
     bindings: &PlainSubst,
     side: &Plain,
-) -> Result<Normal, NoMemory>
+) -> Result<Flat, NoMemory>
     requires keeps { KeepsKinds rewriter.now.signature (value bindings.now.pairs) }
     requires kinded { IsTerm rewriter.now.signature (term side.now) }
+    ensures { IfOk result (IsFlatForm (under rewriter.now (value bindings.now.pairs)) side.now) }
+{
+    let instance = bindings.apply(alloc, side)?;
+    let form = rewriter.flat(&instance)?;
+    Ok(form)
+}
+
+// The normal form of a side of which this is the flat form, or how the search for it ended.
+fn form_of(
+    rewriter: &Rewriter<'_>,
+    bindings: &PlainSubst,
+    side: &Plain,
+    start: &Flat,
+) -> Result<Normal, NoMemory>
+    requires start { IsFlatForm (under rewriter.now (value bindings.now.pairs)) side.now start.now }
     requires limited { rewriter.now.bounds.size < u64.MAX }
     ensures { IfOk result (IsSideAs (under rewriter.now (value bindings.now.pairs)) side.now) }
 {
+    let _bindings = bindings;
+    let _side = side;
     sequences_are_lawful();
-    let instance = bindings.apply(alloc, side)?;
-    let form = rewriter.flat(&instance)?;
-    let found = rewriter.normal(&form)?;
+    let found = rewriter.normal(start)?;
     Ok(found)
 }
 
-// The forms of two sides, where they differ.
+// The forms of two sides that are not equal modulo the axioms, where they differ.
 fn difference(
     rewriter: &Rewriter<'_>,
     bindings: &PlainSubst,
@@ -52,6 +76,7 @@ fn difference(
 ) -> Option<(Flat, Flat)>
     requires keeps { KeepsKinds rewriter.now.signature (value bindings.now.pairs) }
     requires kinded { AreKinded rewriter.now.signature pair.now }
+    requires instances { HasTwoInstances (under rewriter.now (value bindings.now.pairs)) pair.now }
     requires left { IsFormOf (under rewriter.now (value bindings.now.pairs)) pair.now.0 left }
     requires right { IsFormOf (under rewriter.now (value bindings.now.pairs)) pair.now.1 right }
     ensures { IsDifference (under rewriter.now (value bindings.now.pairs)) pair.now result }
@@ -68,24 +93,36 @@ fn difference(
     }
 }
 
-// Compares the right side of a pair with the form of the left one.
+// Compares the right side of a pair with the flat form of the left one, and with its normal form.
 fn compare_right(
     alloc: Global,
     rewriter: &Rewriter<'_>,
     bindings: &PlainSubst,
     pair: &(Plain, Plain),
+    start: &Flat,
     left: Flat,
 ) -> Result<Compared, NoMemory>
     requires keeps { KeepsKinds rewriter.now.signature (value bindings.now.pairs) }
     requires kinded { AreKinded rewriter.now.signature pair.now }
     requires limited { rewriter.now.bounds.size < u64.MAX }
+    requires start { IsFlatForm (under rewriter.now (value bindings.now.pairs)) pair.now.0 start.now }
     requires left { IsFormOf (under rewriter.now (value bindings.now.pairs)) pair.now.0 left }
     ensures { IfOk result (IsCompared (under rewriter.now (value bindings.now.pairs)) pair.now) }
 {
-    let right = form_of(alloc, rewriter, bindings, &pair.1)?;
+    rewriter.recall();
+    equality_is_that_of_flat_forms();
+    sequences_are_lawful();
+    rewriting_is_lawful();
+    theory_equality_is_lawful();
+    let other = flat_form(alloc, rewriter, bindings, &pair.1)?;
+    // Sides that are equal modulo the axioms have one form, whatever the equations are.
+    if start.same(&other) {
+        return Ok(Compared::Found(None));
+    }
+    let right = form_of(rewriter, bindings, &pair.1, &other)?;
     match right {
         Normal::Form(form) => Ok(Compared::Found(difference(rewriter, bindings, pair, left, form))),
-        Normal::Steps(start, end) => Ok(Compared::Ended(Verdict::Steps(start, end))),
+        Normal::Steps(first, end) => Ok(Compared::Ended(Verdict::Steps(first, end))),
         Normal::Size(large) => Ok(Compared::Ended(Verdict::Size(large))),
     }
 }
@@ -102,13 +139,14 @@ pub fn compare(
     requires limited { rewriter.now.bounds.size < u64.MAX }
     ensures { IfOk result (IsCompared (under rewriter.now (value bindings.now.pairs)) pair.now) }
 {
-    let left = form_of(alloc, rewriter, bindings, &pair.0)?;
+    let start = flat_form(alloc, rewriter, bindings, &pair.0)?;
+    let left = form_of(rewriter, bindings, &pair.0, &start)?;
     match left {
         Normal::Form(form) => {
-            let compared = compare_right(alloc, rewriter, bindings, pair, form)?;
+            let compared = compare_right(alloc, rewriter, bindings, pair, &start, form)?;
             Ok(compared)
         }
-        Normal::Steps(start, end) => Ok(Compared::Ended(Verdict::Steps(start, end))),
+        Normal::Steps(first, end) => Ok(Compared::Ended(Verdict::Steps(first, end))),
         Normal::Size(form) => Ok(Compared::Ended(Verdict::Size(form))),
     }
 }

@@ -3,7 +3,8 @@ use Rattle.std.specs.Prelude.{◌≡◌, ℕ, ◌/◌, ◌^◌, ◌+◌, ◌<◌
 use Rattle.fvn_base.specs.declared.limits.TheConstants.{COMPONENT, MINIMAL_SOLUTIONS}
 use Rattle.fvn_lindio.specs.Systems.{vectors_of}
 use Rattle.fvn_lindio.specs.declared.system.Solution.{Solution}
-use Rattle.fvn_acunify.specs.ValidChoice.{IsListed, column_sum}
+use Rattle.fvn_acunify.specs.declared.theory.ColumnBounds.{ColumnBounds}
+use Rattle.fvn_acunify.specs.ValidChoice.{column_sum}
 
 -- few solutions, of so many columns and with small components, and constants among these columns
 pub record IsBounded (columns : ℕ) (constants : List ℕ) (basis : List Solution) : Type 0 where
@@ -12,10 +13,9 @@ pub record IsBounded (columns : ℕ) (constants : List ℕ) (basis : List Soluti
   pub narrow : All (λ v. All (λ a. a ≤ COMPONENT) v.parts) basis
   pub among : All (λ c. c < columns) constants
 
--- no choice that is listed has the bits of this number from a place on
-abbrev pub IsDead : Bool → List ℕ → List Bool → List Solution → ℕ → ℕ → Type 0
-IsDead full constants may_be_zero basis number place =
-    (b : ℕ) → b / 2 ^ place ≡ number / 2 ^ place → IsListed full constants may_be_zero (vectors_of basis) b → ⊥
+-- no number that is listed has the bits of this number from a place on
+abbrev pub IsDead : (ℕ → Type 0) → ℕ → ℕ → Type 0
+IsDead Listed number place = (b : ℕ) → b / 2 ^ place ≡ number / 2 ^ place → Listed b → ⊥
 
 -- a column is above zero with its sum and the lower solutions together
 abbrev pub CanBeFilled : List Solution → List ℕ → ℕ → Type 0
@@ -25,7 +25,13 @@ CanBeFilled lower sums j = 0 < slice_index sums j + column_sum j (vectors_of low
 abbrev pub CanBeOne : List Solution → List ℕ → ℕ → Type 0
 CanBeOne lower sums c = (slice_index sums c ≤ 1) × CanBeFilled lower sums c
 
--- with these column sums and any of the lower solutions every column can still get what is asked
-pub record IsOpen (constants : List ℕ) (may_be_zero : List Bool) (lower : List Solution) (sums : List ℕ) : Type 0 where
+-- with these column sums and any of the lower solutions the bounds can still be kept
+pub record AreBoundsOpen (bounds : ColumnBounds) (lower : List Solution) (sums : List ℕ) : Type 0 where
+  pub most : All (λ j. slice_index sums j ≤ 1) bounds.at_most_one
+  pub least : All (CanBeFilled lower sums) bounds.at_least_one
+
+-- and every column can still get what is asked
+pub record IsOpen (constants : List ℕ) (may_be_zero : List Bool) (bounds : ColumnBounds) (lower : List Solution) (sums : List ℕ) : Type 0 where
   pub filled : (j : ℕ) → slice_index_or may_be_zero j true ≡ false → CanBeFilled lower sums j
   pub once : All (CanBeOne lower sums) constants
+  pub bounded : AreBoundsOpen bounds lower sums

@@ -13,6 +13,7 @@ use Rattle.fvn_module.specs.Contents.{Contents}
 use Rattle.fvn_module_loading.specs.Loading.{IsLoaded}
 use Rattle.fvn_exploring.specs.declared.ends.Explored.{Explored}
 use Rattle.fvn_exploring.specs.Explorations.{IsExploration}
+use Rattle.fvn_closure.specs.Laws.{ExplorationsAreLawful}
 use Rattle.fvn_vunify.specs.declared.solved.SolvedModulo.{SolvedModulo}
 use Rattle.fvn_vunify.specs.Sides.{sides_in_turn}
 use Rattle.fvn_vunify.specs.Solved.{IsSolvedModulo}
@@ -28,11 +29,13 @@ pub record AreSides (d : Declarations) (pairs : FlatPairs) : Type 0 where
   pub fit : All (λ p. Fits d p.0 × Fits d p.1) pairs
   pub kinds : AreOfKinds d (plain_pairs pairs)
 
--- the sides of the pairs were explored with a solver that may draw so, and the pairs solved in what was found
+-- the sides of the pairs were explored with a solver that may draw so, and the pairs solved in what was found; and what is
+-- known of such explorations
 pub record IsSolvedBy (m : Contents) (reach : Reach) (drawn : Problem → Substitution → Type 0) (pairs : FlatPairs)
     (r : SolvedModulo) : Type 0 where
   pub explored : Explored
   pub exploration : IsExploration (setting_of m reach) drawn (sides_in_turn pairs) (limits_of m reach 1) explored
+  pub laws : ExplorationsAreLawful (setting_of m reach) drawn
   pub solved : IsSolvedModulo (setting_of m reach) drawn pairs (limits_of m reach 1) explored r
 
 -- the same with the solver modulo the axioms

@@ -1,5 +1,5 @@
 -- The reader of the words of the command line, as a function.
-use Rattle.std.specs.Prelude.{◌≡◌, ◌<◌, ℕ, Bool, true, false, not, ◌&&◌, ◌+◌, ◌*◌, ◌-◌, nat_eq, nat_le, nat_lt, if◌then◌else◌, List, [], ◌∷◌, ◌++◌, All, map, take, drop, slice_index_or, Option, Some, None, option_map, codes, length}
+use Rattle.std.specs.Prelude.{◌≡◌, ℕ, Bool, true, false, not, ◌&&◌, ◌+◌, ◌*◌, ◌-◌, nat_eq, nat_le, nat_lt, if◌then◌else◌, List, [], ◌∷◌, ◌++◌, take, drop, slice_index_or, Option, Some, None, option_map, codes, length}
 use Rattle.std.specs.Cmp.Lexicographic.{pointwise}
 use Rattle.fvn_cmd_words.specs.declared.limits.TheConstants.{LEAST_WORK, MOST_WORK}
 use Rattle.fvn_cmd_words.specs.declared.options.OptionName.{OptionName}
@@ -10,8 +10,6 @@ use Rattle.fvn_cmd_words.specs.declared.kinds.Mode.TheVariants.{Usual, Value, Op
 use Rattle.fvn_cmd_words.specs.declared.kinds.Next.{Next}
 use Rattle.fvn_cmd_words.specs.declared.kinds.Next.TheVariants.{Operand, Set, To, Wrong}
 use Rattle.fvn_cmd_words.specs.declared.command.Command.{Command as Told}
-use Rattle.fvn_cmd_words.specs.declared.reading.State.{State}
-use Rattle.fvn_cmd_words.specs.declared.reading.Arguments.{Arguments}
 use Rattle.fvn_cmd_words.specs.Told.{meant, IsWithin}
 use Rattle.fvn_cmd_words.specs.Words.{Word, Command, check, unify, verify, terminates, variants, vunify, work, is_dashed, spelled, usual, most, Options}
 
@@ -126,15 +124,6 @@ one_more false found others first = others
 one_more true None others first = first
 one_more true (Some m) others first = None
 
--- the first number of an option; nothing for a second one
-abbrev pub first_one : Option ℕ → ℕ → Option (Option ℕ)
-first_one None n = Some (Some n)
-first_one (Some m) n = None
-
--- the number that was found, with one option more
-abbrev pub with_one : OptionName → Option ℕ → OptionName × ℕ → Option (Option ℕ)
-with_one x found option = if same_name option.0 x then first_one found option.1 else Some found
-
 -- the number with which the option stands, where it stands once or not at all, if one was found before
 abbrev pub once : OptionName → Option ℕ → Options → Option (Option ℕ)
 once x found [] = Some found
@@ -164,6 +153,27 @@ abbrev pub has_steps_alone : Options → Bool
 has_steps_alone [] = true
 has_steps_alone (option ∷ options) = if same_name option.0 Steps then has_steps_alone options else false
 
+-- what a command asks of options: whether none stands, whether none but `--steps` does, and the number of each, which is
+-- none where it stands twice or out of its range
+pub record Standing : Type 0 where
+  pub bare : Bool
+  pub steps_alone : Bool
+  pub levels : Option ℕ
+  pub kept : Option ℕ
+  pub steps : Option ℕ
+  pub workers : Option ℕ
+
+-- the same of a list of options
+abbrev pub standing_of : Options → Standing
+standing_of options = record {
+  bare = is_bare options;
+  steps_alone = has_steps_alone options;
+  levels = setting_of Levels options;
+  kept = setting_of Variants options;
+  steps = setting_of Steps options;
+  workers = setting_of Workers options;
+}
+
 -- a number of `work`
 abbrev pub work_of : Option ℕ → Option Command
 work_of None = None
@@ -178,22 +188,20 @@ reach_of (Some l) (Some v) (Some s) None = None
 reach_of (Some l) (Some v) (Some s) (Some k) = Some (record { levels = l; variants = v; steps = s }, k)
 
 -- the same, from the options
-abbrev pub reach_from : Options → Option (Reach × ℕ)
-reach_from options =
-    reach_of (setting_of Levels options) (setting_of Variants options) (setting_of Steps options) (setting_of Workers options)
+abbrev pub reach_from : Standing → Option (Reach × ℕ)
+reach_from st = reach_of st.levels st.kept st.steps st.workers
 
 -- a search for variants with its options
-abbrev pub variants_from : Word → Options → Option Command
-variants_from word options = option_map (λ s. variants word s.0 s.1) (reach_from options)
+abbrev pub variants_from : Word → Standing → Option Command
+variants_from word st = option_map (λ s. variants word s.0 s.1) (reach_from st)
 
 -- a search for unifiers with its options
-abbrev pub vunify_from : Word → Options → Option Command
-vunify_from word options = option_map (λ s. vunify word s.0 s.1) (reach_from options)
+abbrev pub vunify_from : Word → Standing → Option Command
+vunify_from word st = option_map (λ s. vunify word s.0 s.1) (reach_from st)
 
 -- `verify` with its options
-abbrev pub verify_from : Word → Word → Options → Option Command
-verify_from problem bindings options =
-    if has_steps_alone options then option_map (verify problem bindings) (setting_of Steps options) else None
+abbrev pub verify_from : Word → Word → Standing → Option Command
+verify_from problem bindings st = if st.steps_alone then option_map (verify problem bindings) st.steps else None
 
 -- the command of this name with one operand and without options
 abbrev pub bare_with : Word → Word → Option Command
@@ -203,32 +211,32 @@ bare_with name word =
     else (if pointwise nat_eq name (codes "work") then work_of (number_of word) else None))
 
 -- the command of this name with one operand
-abbrev pub command_with : Word → Word → Options → Option Command
-command_with name word options =
-    if pointwise nat_eq name (codes "variants") then variants_from word options
-    else (if pointwise nat_eq name (codes "vunify") then vunify_from word options
-    else (if is_bare options then bare_with name word else None))
+abbrev pub command_with : Word → Word → Standing → Option Command
+command_with name word st =
+    if pointwise nat_eq name (codes "variants") then variants_from word st
+    else (if pointwise nat_eq name (codes "vunify") then vunify_from word st
+    else (if st.bare then bare_with name word else None))
 
 -- the command of this name with two operands
-abbrev pub command_with_two : Word → Word → Word → Options → Option Command
-command_with_two name problem bindings options =
-    if pointwise nat_eq name (codes "verify") then verify_from problem bindings options else None
+abbrev pub command_with_two : Word → Word → Word → Standing → Option Command
+command_with_two name problem bindings st =
+    if pointwise nat_eq name (codes "verify") then verify_from problem bindings st else None
 
 -- the command of this name alone
-abbrev pub command_alone : Word → Options → Option Command
-command_alone name options = if pointwise nat_eq name (codes "check") && is_bare options then Some check else None
+abbrev pub command_alone : Word → Standing → Option Command
+command_alone name st = if pointwise nat_eq name (codes "check") && st.bare then Some check else None
 
 -- the command of this name with these operands and options
-abbrev pub command_from : Word → List Word → Options → Option Command
-command_from name [] options = command_alone name options
-command_from name (word ∷ []) options = command_with name word options
-command_from name (word ∷ other ∷ []) options = command_with_two name word other options
-command_from name (word ∷ other ∷ more ∷ operands) options = None
+abbrev pub command_from : Word → List Word → Standing → Option Command
+command_from name [] st = command_alone name st
+command_from name (word ∷ []) st = command_with name word st
+command_from name (word ∷ other ∷ []) st = command_with_two name word other st
+command_from name (word ∷ other ∷ more ∷ operands) st = None
 
 -- the same, from what was read behind the name
 abbrev pub command_given : Word → Option Given → Option Command
 command_given name None = None
-command_given name (Some g) = command_from name g.0 g.1
+command_given name (Some g) = command_from name g.0 (standing_of g.1)
 
 -- the command that the words are
 abbrev pub command_of : List Word → Option Command
@@ -240,37 +248,6 @@ abbrev pub TellsAs : Option Command → Option Told → Type 0
 TellsAs read None = read ≡ None
 TellsAs read (Some told) = (read ≡ Some (meant told)) × IsWithin told
 
--- each number is below this one
-abbrev pub AllBelow : ℕ → List ℕ → Type 0
-AllBelow most numbers = All (λ n. n < most) numbers
-
 -- the operands' words, from their places
 abbrev pub word_at : List Word → ℕ → Word
 word_at words i = slice_index_or words i []
-
--- what one word adds to the operands and options so far, and what is awaited then
-abbrev pub TakenAs : Next → ℕ → State → Option State → Type 0
-TakenAs Operand i s None = ⊥
-TakenAs Operand i s (Some t) = (t.mode ≡ s.mode) × (t.operands.items ≡ s.operands.items ++ i ∷ []) × (t.options.items ≡ s.options.items)
-TakenAs (Set x n) i s None = ⊥
-TakenAs (Set x n) i s (Some t) = (t.mode ≡ Usual) × (t.operands.items ≡ s.operands.items) × (t.options.items ≡ s.options.items ++ (x, n) ∷ [])
-TakenAs (To other) i s None = ⊥
-TakenAs (To other) i s (Some t) = (t.mode ≡ other) × (t.operands.items ≡ s.operands.items) × (t.options.items ≡ s.options.items)
-TakenAs Wrong i s None = Unit {0}
-TakenAs Wrong i s (Some t) = ⊥
-
--- what the words are, from what was read of the first ones and the words behind them
-abbrev pub read_so_far : List Word → State → List Word → Option Given
-read_so_far words s rest = before_all (map (word_at words) s.operands.items) s.options.items (arguments_of rest s.mode)
-
--- the words behind the name, as they were read
-abbrev pub ReadAs : List Word → Option Arguments → Type 0
-ReadAs words None = arguments_of (drop 1 words) Usual ≡ None
-ReadAs words (Some a) =
-    (arguments_of (drop 1 words) Usual ≡ Some (map (word_at words) a.operands.items, a.options.items))
-    × AllBelow (length words) a.operands.items
-
--- the operands and options so far, if the words may end here
-abbrev pub ClosedAs : State → Option Arguments → Type 0
-ClosedAs s None = at_end s.mode ≡ None
-ClosedAs s (Some a) = (at_end s.mode ≡ Some ([], [])) × (a.operands.items ≡ s.operands.items) × (a.options.items ≡ s.options.items)

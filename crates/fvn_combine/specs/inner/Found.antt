@@ -1,9 +1,8 @@
 -- What is found when states are looked at and choices are gone through.
-use Rattle.std.specs.Prelude.{◌≡◌, ◌⊎◌, ◌↔◌, ℕ, ◌*◌, ◌<◌, ◌≤◌, Bool, true, false, List, [], ◌∷◌, ◌++◌, length, Option, Result, Ok, Err}
+use Rattle.std.specs.Prelude.{◌≡◌, ◌≢◌, ◌⊎◌, ◌↔◌, ℕ, ◌*◌, ◌<◌, ◌≤◌, Bool, true, false, List, [], ◌∷◌, ◌++◌, length, Option, Result, Ok, Err}
 use Rattle.fvn_base.specs.declared.memory.NoMemory.{NoMemory}
 use Rattle.fvn_terms.specs.Substitution.{Substitution}
-use Rattle.fvn_flat.specs.Solving.{problem_of, IsBasisCause, IsTooLarge}
-use Rattle.fvn_flat.specs.SolvedLists.{IsKindUnifier}
+use Rattle.fvn_flat.specs.Solving.{IsBasisCause, IsTooLarge}
 use Rattle.fvn_combine_nodes.specs.States.{Admits, IsOpen}
 use Rattle.fvn_combine_nodes.specs.Trees.{weight}
 use Rattle.fvn_combine_nodes.specs.Unifiers.{kernel}
@@ -12,10 +11,10 @@ use Rattle.fvn_acunify_product.specs.Tags.{tags_left}
 use Rattle.fvn_combine_drawing.specs.OnKinds.{IsGivenOnKinds}
 use Rattle.fvn_combine_drawing.specs.declared.drawing.Drawn.{Drawn}
 use Rattle.fvn_combine_drawing.specs.declared.drawing.Drawn.TheVariants.{Nothing as NoneDrawn, TooLarge, Unifier}
-use Rattle.fvn_combine.specs.Tasks.{Combining}
+use Rattle.fvn_combine.specs.Tasks.{Combining, IsWanted}
 use Rattle.fvn_combine.specs.Advancing.{IsCovered}
 use Rattle.fvn_combine.specs.Leaves.{IsOpened, IsCoveredLater, IsCoveredToCome}
-use Rattle.fvn_combine.specs.Search.{IsEnd, IsAdmitted, IsOpenedAt, IsCoveredAt}
+use Rattle.fvn_combine.specs.Search.{IsEnd, IsRefusedAt, HasNoQuestion, IsAdmitted, IsOpenedAt, IsCoveredAt}
 use Rattle.fvn_combine.specs.Work.{most_tags, most_numbers, leaf_left, left_by}
 use Rattle.fvn_combine.specs.declared.opened.Opened.{Opened}
 use Rattle.fvn_combine.specs.declared.opened.Leaf.{Leaf}
@@ -24,7 +23,7 @@ use Rattle.fvn_combine.specs.declared.stepping.Step.TheVariants.{Over as NoneLef
 use Rattle.fvn_combine.specs.declared.stepping.Found.{Found}
 use Rattle.fvn_combine.specs.declared.stepping.Found.TheVariants.{Nothing, Ends, Given}
 use Rattle.fvn_combine.specs.declared.looking.Looked.{Looked}
-use Rattle.fvn_combine.specs.declared.looking.Looked.TheVariants.{Over, Open, Passed, Refused, Leaf as OnLeaf}
+use Rattle.fvn_combine.specs.declared.looking.Looked.TheVariants.{Over, Open, Together, Apart, Passed, Refused, Leaf as OnLeaf}
 
 module _ (k : Combining) (Before After : Substitution → Type 0) where
   -- nothing, where nothing was to come; bindings that are too large, with all still to come; or a unifier that covers what is no longer to come
@@ -68,16 +67,24 @@ module _ (k : Combining) (s : State) (before after : Opened) where
       × (leaf_left k after ≤ leaf_left k before)
 
 module _ (k : Combining) where
-  -- the state admits the partition of u, which is a unifier on kinds
+  -- the state admits the partition of u, which is asked for
   abbrev pub IsAdmittedBy : State → Substitution → Type 0
-  IsAdmittedBy s u = IsKindUnifier k.declarations (problem_of k.given) u × Admits s (kernel k.declarations u k.table.nodes)
+  IsAdmittedBy s u = IsWanted k u × Admits s (kernel k.declarations u k.table.nodes)
 
-  -- a question is open in the state; it admits no unifier; a sum system of the problem under a partition is refused; or it is a leaf, which is opened
+  -- A question is open in the state; two nodes of which it is open are in one class, or in two, under each unifier that it
+  -- admits and that is asked for; it admits none of these; none is open, and a sum system of the problem under its
+  -- partition is refused; or it is a leaf, which is opened.
   abbrev pub IsLookedAt : State → Looked → Type 0
   IsLookedAt s Over = ⊥
   IsLookedAt s (Open i j) = (i < length k.table.nodes) × (j < length k.table.nodes) × IsOpen s i j
+  IsLookedAt s (Together i j) =
+      (i < length k.table.nodes) × (j < length k.table.nodes) × IsOpen s i j
+      × ((u : Substitution) → IsAdmittedBy s u → kernel k.declarations u k.table.nodes i ≡ kernel k.declarations u k.table.nodes j)
+  IsLookedAt s (Apart i j) =
+      (i < length k.table.nodes) × (j < length k.table.nodes) × IsOpen s i j
+      × ((u : Substitution) → IsAdmittedBy s u → kernel k.declarations u k.table.nodes i ≢ kernel k.declarations u k.table.nodes j)
   IsLookedAt s Passed = (u : Substitution) → IsAdmittedBy s u → ⊥
-  IsLookedAt s (Refused f system) = IsBasisCause k.declarations k.given f system
+  IsLookedAt s (Refused f system) = IsBasisCause k.declarations k.given f system × IsRefusedAt k s f system
   IsLookedAt s (OnLeaf o) =
       IsOpened k s o × ((u : Substitution) → IsAdmittedBy s u → IsCoveredToCome k s o u)
       × (leaf_left k o ≤ most_tags k * most_numbers k)
@@ -93,14 +100,16 @@ module _ (k : Combining) where
   abbrev pub IsLooked : List State → Looked → Type 0
   IsLooked states Over = states ≡ []
   IsLooked states (Open i j) = IsLookedAtLast states (Open i j)
+  IsLooked states (Together i j) = IsLookedAtLast states (Together i j)
+  IsLooked states (Apart i j) = IsLookedAtLast states (Apart i j)
   IsLooked states Passed = IsLookedAtLast states Passed
   IsLooked states (Refused f system) = IsLookedAtLast states (Refused f system)
   IsLooked states (OnLeaf o) = IsLookedAtLast states (OnLeaf o)
 
 module _ (k : Combining) where
-  -- u, a unifier on kinds, is to come in these states, or at the leaf that is open
+  -- u, which is asked for, is to come in these states, or at the leaf that is open
   abbrev pub IsAhead : List State → Option Leaf → Substitution → Type 0
-  IsAhead states leaf u = IsKindUnifier k.declarations (problem_of k.given) u × (IsAdmitted k states u ⊎ IsCoveredAt k leaf u)
+  IsAhead states leaf u = IsWanted k u × (IsAdmitted k states u ⊎ IsCoveredAt k leaf u)
 
   module _ (states : List State) (leaf : Option Leaf) (states_after : List State) (leaf_after : Option Leaf) where
     -- no state is left; or the tree falls, and what the states admit is to come, and no more; or the search ends here, and all is as it was
@@ -108,9 +117,9 @@ module _ (k : Combining) where
     IsStep NoneLeft = (states ≡ []) × (states_after ≡ states) × (leaf_after ≡ leaf)
     IsStep More =
         (weight states_after < weight states) × IsOpenedAt k leaf_after
-        × ((u : Substitution) → IsKindUnifier k.declarations (problem_of k.given) u → IsAdmitted k states u ↔ (IsAdmitted k states_after u ⊎ IsCoveredAt k leaf_after u))
+        × ((u : Substitution) → IsWanted k u → IsAdmitted k states u ↔ (IsAdmitted k states_after u ⊎ IsCoveredAt k leaf_after u))
         × (left_by k states_after leaf_after ≤ left_by k states leaf)
-    IsStep (End e) = IsEnd k e × (states_after ≡ states) × (leaf_after ≡ leaf)
+    IsStep (End e) = IsEnd k e × HasNoQuestion k states e × (states_after ≡ states) × (leaf_after ≡ leaf)
 
     -- all that was to come is so, and no more
     abbrev pub IsAheadAsBefore : Type 0
@@ -119,7 +128,7 @@ module _ (k : Combining) where
     -- nothing was to come; or the search ends here; or a unifier covers what is no longer to come
     abbrev pub IsFound : Found → Type 0
     IsFound Nothing = ((u : Substitution) → IsAhead states leaf u → ⊥) × IsAheadAsBefore
-    IsFound (Ends e) = IsEnd k e × IsAheadAsBefore
+    IsFound (Ends e) = IsEnd k e × HasNoQuestion k states_after e × IsAheadAsBefore
     IsFound (Given g) = IsGivenOnKinds k.declarations k.given k.first k.size g × ((u : Substitution) → IsAhead states leaf u → IsCovered k g u ⊎ IsAhead states_after leaf_after u)
 
     -- so it is, and at want of memory all is to come as before

@@ -68,6 +68,11 @@ module _ (splits : List (Option (ℕ × ℕ))) where
     pub weight : (w : ℕ → ℕ) → IsAdditive w → sum_by w list ≡ w k
     pub below : All (λ i. i < length splits) list
 
+  -- they weigh together what classes a and b weigh
+  pub record IsSum (a b : ℕ) (list : List ℕ) : Type 0 where
+    pub weight : (w : ℕ → ℕ) → IsAdditive w → sum_by w list ≡ w a + w b
+    pub below : All (λ i. i < length splits) list
+
   -- where class k weighs what a and b weigh, and the identity nothing, both sides of the row weigh the same
   pub record IsReduced (unit : Option ℕ) (k a b : ℕ) (row : Row) : Type 0 where
     pub weight : (w : ℕ → ℕ) → IsAdditive w → IfSome unit (λ e. w e ≡ 0) → w k ≡ w a + w b → sum_by w row.left.items ≡ sum_by w row.right.items

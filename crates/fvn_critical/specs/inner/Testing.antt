@@ -1,5 +1,5 @@
 -- What the tests of overlaps show.
-use Rattle.std.specs.Prelude.{◌≡◌, ℕ, Bool, true, false, List, All, Contains, Option, None, Some}
+use Rattle.std.specs.Prelude.{◌≡◌, ◌<◌, ℕ, Bool, true, false, List, [], ◌∷◌, length, drop, All, Contains, Option, None, Some, slice_get}
 use Rattle.fvn_terms.specs.declared.plain.OpId.{OpId}
 use Rattle.fvn_terms.specs.Substitution.{Substitution}
 use Rattle.fvn_terms.specs.Unifiers.{Problem, IsUnifier}
@@ -10,7 +10,7 @@ use Rattle.fvn_flat.specs.Solving.{substitution}
 use Rattle.fvn_rewrite_rules.specs.declared.rule.Rule.{Rule}
 use Rattle.fvn_rewrite.specs.Usable.{Rewriting, equations_by}
 use Rattle.fvn_places.specs.Paths.{LeadsTo, paths}
-use Rattle.fvn_critical_pairs.specs.Overlaps.{Overlap, overlap_problem, IsRenewed, IsOverlap, IsOverlapWith, JoinsUnder, Joins, IsJoined}
+use Rattle.fvn_critical_pairs.specs.Overlaps.{Overlap, overlap_problem, IsRenewed, IsOverlap, IsOverlapWith, JoinsUnder, Joins, SubsumeAll}
 use Rattle.fvn_critical.specs.declared.pairing.Meeting.{Meeting}
 use Rattle.fvn_critical.specs.declared.renewing.New.{New}
 use Rattle.fvn_critical.specs.declared.testing.Part.{Part}
@@ -66,12 +66,35 @@ JoinWith r outer path inner =
     (o : Overlap) → o.outer ≡ outer → o.path ≡ path → o.inner ≡ inner → IsOverlapWith r.rules o →
     Joins r.signature (equations_by r) o
 
--- the overlaps of the outer rule at the path join
-abbrev pub JoinAt : Rewriting → Rule → List ℕ → Type 0
-JoinAt r outer path =
-    (o : Overlap) → o.outer ≡ outer → o.path ≡ path → IsOverlapWith r.rules o →
+-- the overlaps of the outer rule at the path with chosen rules join
+abbrev pub JoinAt : Rewriting → List Rule → Rule → List ℕ → Type 0
+JoinAt r chosen outer path =
+    (o : Overlap) → o.outer ≡ outer → o.path ≡ path → IsOverlapWith r.rules o → Contains chosen o.inner →
     Joins r.signature (equations_by r) o
 
--- all overlaps of the rule join
-abbrev pub IsJoinedBy : Rewriting → Rule → Type 0
-IsJoinedBy r = IsJoined r.signature (equations_by r) r.rules
+-- the inner rules of overlaps at a path: where whole left sides overlap these later ones alone, else all that are chosen
+abbrev pub inner_rules : List Rule → List Rule → List ℕ → List Rule
+inner_rules chosen later [] = later
+inner_rules chosen later (i ∷ path) = chosen
+
+-- the overlaps of the outer rule at the path with these inner rules join
+abbrev pub IsJoinedAt : Rewriting → List Rule → List Rule → Rule → List ℕ → Type 0
+IsJoinedAt r chosen later outer path = JoinAt r (inner_rules chosen later path) outer path
+
+-- some renewal of the rule joins in its overlaps with chosen rules, where whole left sides overlap in those with the later ones
+pub record IsJoinedAlong (r : Rewriting) (chosen later : List Rule) (rule : Rule) : Type 0 where
+  pub next : ℕ
+  pub new : Rule
+  pub renewed : IsRenewed r.signature next rule new
+  pub along : Each (IsJoinedAt r chosen later new) (paths new.left)
+
+-- each of the first so many chosen rules does so, with itself and those behind it
+abbrev pub AreJoinedUpTo : Rewriting → List Rule → ℕ → Type 0
+AreJoinedUpTo r chosen n =
+    (i : ℕ) (rule : Rule) → i < n → slice_get chosen i ≡ Some rule → IsJoinedAlong r chosen (drop i chosen) rule
+
+-- some rules that subsume all join so
+pub record AreJoinedBySome (r : Rewriting) : Type 0 where
+  pub chosen : List Rule
+  pub enough : SubsumeAll r.signature r.rules.rules chosen
+  pub joined : AreJoinedUpTo r chosen (length chosen)

@@ -1,18 +1,21 @@
 -- The turns of an expansion, and what is found in them.
-use Rattle.std.specs.Prelude.{◌≡◌, ◌≤◌, ◌<◌, ◌⊎◌, ◌+◌, ℕ, List, [], ◌∷◌, ◌++◌, map, take, drop, All, Contains, Some, slice_get}
+use Rattle.std.specs.Prelude.{◌≡◌, ◌≤◌, ◌<◌, ◌⊎◌, ◌+◌, ℕ, Bool, true, IsTrue, List, [], ◌∷◌, ◌++◌, length, map, take, drop, All, Contains, Some, None, slice_get}
 use Rattle.fvn_base.specs.declared.limits.TheConstants.{FIRST_FRESH}
 use Rattle.fvn_terms.specs.declared.plain.Var.{Var}
 use Rattle.fvn_terms.specs.declared.plain.OpId.{OpId}
 use Rattle.fvn_terms.specs.declared.declarations.Declarations.{Declarations}
 use Rattle.fvn_terms.specs.Term.{var}
 use Rattle.fvn_terms.specs.Substitution.{Substitution}
-use Rattle.fvn_terms.specs.Equality.{BEqual}
+use Rattle.fvn_terms.specs.Signature.{axioms}
+use Rattle.fvn_terms.specs.Equality.{IsAssociative, BEqual}
 use Rattle.fvn_terms.specs.Unifiers.{Problem}
 use Rattle.fvn_terms.specs.Rewriting.{ListSequence}
-use Rattle.fvn_forms.specs.Flat.{FlatTerm, plain}
+use Rattle.fvn_forms.specs.Flat.{FlatTerm, fapp, fpack, plain}
 use Rattle.fvn_forms.specs.Canon.{canon}
 use Rattle.fvn_flat.specs.Bindings.{Bindings}
-use Rattle.fvn_flat.specs.Forms.{head_of}
+use Rattle.fvn_flat.specs.Fits.{AllFit, Takes}
+use Rattle.fvn_flat.specs.FlatPlaces.{Beside, IsPartOf, with_beside}
+use Rattle.fvn_flat.specs.Forms.{head_of, args_of}
 use Rattle.fvn_flat.specs.Solving.{substitution}
 use Rattle.fvn_flat.specs.Successors.{Narrowed, OccursIn, IsStepFrom}
 use Rattle.fvn_flat.specs.declared.solver.Pairs.{Pairs}
@@ -28,6 +31,7 @@ use Rattle.fvn_exploring.specs.declared.ends.ExpandEnd.{ExpandEnd}
 use Rattle.fvn_exploring.specs.declared.ends.ExpandEnd.TheVariants.{Whole, Steps, Size, Basis, Unifiers}
 use Rattle.fvn_exploring.specs.declared.ends.Expansion.{Expansion}
 use Rattle.fvn_lifting.specs.Lifted.{LiftsAt}
+use Rattle.fvn_lifting.specs.Pairs.{IsMetInPairs, PairsLiftAt}
 use Rattle.fvn_places.specs.Paths.{LeadsTo}
 use Rattle.fvn_places.specs.Putting.{CanPut, PutAs}
 use Rattle.fvn_narrow_children.specs.Starts.{IsNumberedUpTo}
@@ -35,15 +39,30 @@ use Rattle.fvn_narrow_children.specs.Values.{AreIrreducible}
 use Rattle.fvn_narrow_children.specs.Growing.{AreGrown}
 use Rattle.fvn_narrow.specs.Settings.{narrowing_setting}
 
--- which member of the terms, the path to a part of it, and a rule
+-- which member of the terms, the path to a form in it, what stands beside a part of this form, and a rule
 pub record Turn : Type 0 where
   pub member : ℕ
   pub path : List ℕ
+  pub beside : Beside
   pub rule : Rule
 
 -- a turn from what it is made of
-abbrev pub turn_of : ℕ → List ℕ → Rule → Turn
-turn_of member path rule = record { member = member; path = path; rule = rule }
+abbrev pub turn_of : ℕ → List ℕ → Beside → Rule → Turn
+turn_of member path beside rule = record { member = member; path = path; beside = beside; rule = rule }
+
+-- what is put in the form's place: the rule's right side, with what stands beside the part
+abbrev pub put_in : Declarations → Turn → FlatTerm
+put_in d turn = with_beside d turn.beside turn.rule.right
+
+-- where a sum is divided, something is left
+abbrev pub SomeLeft : Beside → Type 0
+SomeLeft None = Unit {0}
+SomeLeft (Some sum) = 1 ≤ length sum.1
+
+-- the operator takes the form and what stands beside it
+abbrev pub CanStandBeside : Declarations → Beside → FlatTerm → Type 0
+CanStandBeside d None t = Unit {0}
+CanStandBeside d (Some sum) t = AllFit d (t ∷ sum.1) × Takes d sum.0 (t ∷ sum.1)
 
 -- what is kept of a variant from which one step goes on
 pub record IsReady (r : Rewriting) (v : Variant) (next : ℕ) : Type 0 where
@@ -72,29 +91,36 @@ module _ (d : Declarations) (terms : List FlatTerm) (member : ℕ) (path : List 
     pub all_are : all ≡ take member terms ++ new ∷ drop (member + 1) terms
 
 module _ (r : Rewriting) (v : Variant) where
-  -- the turn's path leads to this form, and its rule is needed under the form's head
+  -- the turn's path leads to a form of which this is a part, and its rule is needed under the part's head
   pub record IsTurnAt (at : FlatTerm) (turn : Turn) : Type 0 where
     pub term : FlatTerm
     pub is : slice_get v.terms turn.member ≡ Some term
-    pub leads : LeadsTo turn.path term at
+    pub whole : FlatTerm
+    pub leads : LeadsTo turn.path term whole
+    pub part : IsPartOf whole at turn.beside
+    pub left : SomeLeft turn.beside
     pub operator : OpId
     pub heads : head_of at ≡ Some operator
     pub needed : Contains (headed r.rules operator) turn.rule
 
-  -- the path leads to this form in one member, and the rules are those that are needed under its head
-  pub record IsPartAt (member : ℕ) (path : List ℕ) (at : FlatTerm) (rules : List Rule) : Type 0 where
+  -- the path leads to this form in one member, and f heads it
+  pub record IsFormAt (member : ℕ) (path : List ℕ) (f : OpId) (at : FlatTerm) : Type 0 where
     pub term : FlatTerm
     pub is : slice_get v.terms member ≡ Some term
     pub leads : LeadsTo path term at
-    pub operator : OpId
-    pub heads : head_of at ≡ Some operator
-    pub needed : rules ≡ headed r.rules operator
+    pub heads : head_of at ≡ Some f
+
+  -- the form is a sum of f over more than two summands
+  pub record IsSumAt (member : ℕ) (path : List ℕ) (f : OpId) (at : FlatTerm) : Type 0 where
+    pub form : IsFormAt member path f at
+    pub associative : IsAssociative (axioms r.signature f)
+    pub many : 2 < length (args_of at)
 
   -- no unifier and no child, or what the unifiers make of the terms with the rule's right side put in
   abbrev pub AreGrownAt : Turn → List Bindings → Expansion → Type 0
   AreGrownAt turn unifiers e = ((unifiers ≡ []) × (e.children ≡ []) × (e.end ≡ Whole))
       ⊎ ((members : List FlatTerm)
-      × AreMembers r.signature v.terms turn.member turn.path turn.rule.right members
+      × AreMembers r.signature v.terms turn.member turn.path (put_in r.signature turn) members
       × AreGrown r v members unifiers e)
 
 -- a successor by one step from the variant as it is, brought to normal form
@@ -123,24 +149,78 @@ module _ (g : Setting) (drawn : Problem → Substitution → Type 0) (Posed : Pa
   EndsAs (Basis f system) = IsSystemCause g drawn Posed Told f system
   EndsAs (Unifiers given list) = IsUnifiersCause g drawn Posed Told given list
 
-module _ (r : Rewriting) (unifiers : ℕ) (drawn : Problem → Substitution → Type 0) (v : Variant) where
-  abbrev setting : Setting
+-- a form, and a rule that is tried there
+pub record Try : Type 0 where
+  pub at : FlatTerm
+  pub rule : Rule
+
+-- a try from what it is made of
+abbrev pub try_of : FlatTerm → Rule → Try
+try_of at rule = record { at = at; rule = rule }
+
+module _ (r : Rewriting) (unifiers : ℕ) (v : Variant) where
+  abbrev pub setting : Setting
   setting = narrowing_setting r unifiers
 
-  -- each instance that meets the turn's rule at its part lifts into one of these
-  abbrev pub LiftsInTurn : Turn → List Variant → Type 0
-  LiftsInTurn turn children =
-      (at : FlatTerm) → IsTurnAt r v at turn → LiftsAt setting v.vars (narrowed v) at turn.rule.left children
+  -- each instance that meets the rule at the form lifts into one of these
+  abbrev pub TryLifts : Try → List Variant → Type 0
+  TryLifts try children = LiftsAt setting v.vars (narrowed v) try.at try.rule.left children
 
-  -- what is found in the turns that are covered
-  pub record AreFound (Covered : Turn → Type 0) (e : Expansion) : Type 0 where
-    pub children : All (IsStepChild setting drawn v) e.children
-    pub whole : e.end ≡ Whole → (turn : Turn) → Covered turn → LiftsInTurn turn e.children
-    pub cause : EndsAs setting drawn (IsRuleProblem setting v.terms) (IsOfStep setting drawn v) e.end
+  -- the same; or rules that are met in pairs are passed over, and this is one
+  abbrev pub TryLiftsUnless : Bool → Try → List Variant → Type 0
+  TryLiftsUnless passes try children = TryLifts try children
+      ⊎ (IsTrue passes × IsMetInPairs r.signature r.rules try.rule)
 
--- the turns at one part by one of these rules
-abbrev pub IsAtPart : ℕ → List ℕ → List Rule → Turn → Type 0
-IsAtPart member path rules turn = (turn.member ≡ member) × (turn.path ≡ path) × Contains rules turn.rule
+  -- the same; or the rule is met in pairs, and at the pairs of the form's summands they lift
+  abbrev pub TryLiftsByParts : Try → List Variant → Type 0
+  TryLiftsByParts try children = TryLifts try children
+      ⊎ (IsMetInPairs r.signature r.rules try.rule
+      × PairsLiftAt setting r.rules v.vars (narrowed v) try.at children)
+
+  -- so it is at the form to which the turn's path leads
+  abbrev pub TurnLifts : Turn → List Variant → Type 0
+  TurnLifts turn children =
+      (at : FlatTerm) → IsTurnAt r v at turn → turn.beside ≡ None
+      → TryLiftsByParts (try_of at turn.rule) children
+
+-- something holds of the children for each of those that are covered
+abbrev pub ForEach : {T : Type 0} → (T → List Variant → Type 0) → (T → Type 0) → List Variant → Type 0
+ForEach {T} Holds Covered children = (x : T) → Covered x → Holds x children
+
+module _ (r : Rewriting) (unifiers : ℕ) (drawn : Problem → Substitution → Type 0) (v : Variant) where
+  -- what is found, of which something holds where the end is whole
+  pub record AreFound (Holds : List Variant → Type 0) (e : Expansion) : Type 0 where
+    pub children : All (IsStepChild (narrowing_setting r unifiers) drawn v) e.children
+    pub whole : e.end ≡ Whole → Holds e.children
+    pub cause : EndsAs (narrowing_setting r unifiers) drawn
+        (IsRuleProblem (narrowing_setting r unifiers) v.terms)
+        (IsOfStep (narrowing_setting r unifiers) drawn v) e.end
+
+-- what is tried at one form, by one of these rules
+abbrev pub IsTryOf : FlatTerm → List Rule → Try → Type 0
+IsTryOf at rules try = (try.at ≡ at) × Contains rules try.rule
+
+-- f's sum of the summands that stand at these places
+pub record IsPairAt (f : OpId) (ts : List FlatTerm) (i j : ℕ) (pair : FlatTerm) : Type 0 where
+  pub first : FlatTerm
+  pub second : FlatTerm
+  pub at_first : slice_get ts i ≡ Some first
+  pub at_second : slice_get ts j ≡ Some second
+  pub is : pair ≡ fapp f true (fpack (first ∷ second ∷ []))
+
+-- what is tried at the pair of these two summands, by one of these rules
+abbrev pub IsTryAt : OpId → List FlatTerm → List Rule → (ℕ × ℕ) → Try → Type 0
+IsTryAt f ts rules places try = IsPairAt f ts places.0 places.1 try.at × Contains rules try.rule
+
+-- at a pair of the first and one of those behind it, before place `to`
+abbrev pub IsTryFrom : OpId → List FlatTerm → List Rule → (ℕ × ℕ) → Try → Type 0
+IsTryFrom f ts rules places try =
+    (j : ℕ) × (places.0 < j) × ((j < places.1) × IsTryAt f ts rules (places.0, j) try)
+
+-- at a pair whose first is before this place
+abbrev pub IsTryBefore : OpId → List FlatTerm → List Rule → ℕ → Try → Type 0
+IsTryBefore f ts rules place try =
+    (i : ℕ) × (i < place) × IsTryFrom f ts rules (i, length ts) try
 
 -- the turns in one member, along one of these paths
 abbrev pub IsThrough : ℕ → List (List ℕ) → Turn → Type 0

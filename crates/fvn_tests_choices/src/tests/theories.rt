@@ -3,7 +3,7 @@ ghost use Rattle.std.specs.Prelude.{◌<◌};
 ghost use Rattle.fvn_acunify.specs.Theory.{IsOneTheory};
 
 use super::kept::{keeps, one_row};
-use fvn_acunify::{Choices, OneFault, OneTheory, solve_one};
+use fvn_acunify::{Choices, ColumnBounds, OneFault, OneTheory, solve_one};
 use fvn_base::Seq;
 use fvn_lindio::{LinFault, Row, Solution, System};
 use std::alloc::{AllocError, Global};
@@ -61,6 +61,33 @@ fn assert_full(rt: &impl Abort, alloc: Global, constants: &[usize], want: u32) -
 fn full_choices_take_every_solution_without_a_constant(rt: HostRuntime) -> Result<(), Fail> {
     assert_full(&rt, rt.alloc(), &[], 15)?;
     assert_full(&rt, rt.alloc(), &[1, 3], 14)
+}
+
+/// The choices that have at most 1 in the first columns, and at least 1 in the second.
+fn assert_within(
+    rt: &impl Abort,
+    alloc: Global,
+    most: &[usize],
+    least: &[usize],
+    want: &[u32],
+) -> Result<(), Fail> {
+    let theory = one_row(alloc, &[1, 1, -1, -1], &[], true)?;
+    assert!(rt; keeps(&theory));
+    let mut choices = solve_one(alloc, &theory)?;
+    choices.list_within(ColumnBounds {
+        at_most_one: Seq::from_vec(Vec::from_slice(alloc, most)?),
+        at_least_one: Seq::from_vec(Vec::from_slice(alloc, least)?),
+    });
+    assert_given(rt, &mut choices, want);
+    Ok(())
+}
+
+// The four solutions take a left and a right column each: 1 and 3, 1 and 2, 0 and 3, 0 and 2.
+#[test]
+fn choices_within_bounds(rt: HostRuntime) -> Result<(), Fail> {
+    assert_within(&rt, rt.alloc(), &[0, 1, 2, 3], &[], &[9, 8, 6, 4, 2, 1, 0])?;
+    assert_within(&rt, rt.alloc(), &[0, 4], &[0, 1, 2, 3], &[11, 9, 7, 6])?;
+    assert_within(&rt, rt.alloc(), &[], &[0, 4], &[])
 }
 
 /// Whether the basis of the first row has too many solutions.

@@ -3,22 +3,52 @@ ghost use Rattle.std.specs.Prelude.{◌<◌, ◌≤◌, length, IfOk, IfSome, On
 ghost use Rattle.fvn_base.specs.declared.limits.TheConstants.{COLUMNS, TERM_SYMBOLS};
 ghost use Rattle.fvn_flat.specs.Solving.{IsGiven, symbols_of_pairs};
 ghost use Rattle.fvn_combine_choices.specs.Tables.{HasSums};
+ghost use Rattle.fvn_combine_inferring.specs.Inferred.{TellHeads};
 ghost use Rattle.fvn_combine_leaves.specs.Readings.{IsReading};
 ghost use Rattle.fvn_combine_nodes.specs.States.{IsClosed, IsOpen, class_of};
-ghost use Rattle.fvn_combine_nodes.specs.Trees.{AreClosed, weight};
+ghost use Rattle.fvn_combine_nodes.specs.Trees.{AreClosed, IsOpenAtTop, weight};
 ghost use Rattle.fvn_combine_systems.specs.NodeSystems.{HoldsArguments};
 
 use super::unifying::push_number;
 use fvn_combine_candidates::bases;
 use fvn_combine_complete::tables_have_sums;
-use fvn_combine_inferring::{Inferred, infer};
+use fvn_combine_inferring::{Inferred, differ, heads_of_values, infer};
 use fvn_combine_leaves::{Reading, first_question, question_on_all, question_on_touched, read};
 use fvn_combine_nodes::{State, Table, Tree, table_of};
 use fvn_combine_systems::{tables_are_small, tables_hold_arguments};
 use fvn_flat::Pairs;
 use fvn_signature::Signature;
-use fvn_terms::NoMemory;
+use fvn_terms::{NoMemory, OpId};
 use std::alloc::Global;
+
+/// What is asked of two nodes: whether they are in one class, or nothing, since all unifiers say the same.
+#[derive(Clone, Copy)]
+enum Question {
+    Open,
+    Together,
+    Apart,
+}
+
+/// An open question, or that all unifiers say no to it.
+fn question(
+    sig: &Signature,
+    table: &Table,
+    state: &State,
+    heads: &[Option<OpId>],
+    i: usize,
+    j: usize,
+) -> Question
+    requires closed { IsClosed sig.now table.now state.now }
+    requires sums { HasSums sig.now table.now }
+    requires heads { TellHeads sig.now table.now state.now heads.now }
+    requires left { i < length table.now.nodes }
+    requires right { j < length table.now.nodes }
+{
+    if differ(sig, table, state, heads, i, j) {
+        return Question::Apart;
+    }
+    Question::Open
+}
 
 /// What a state is asked of which nothing is inferred; none where it is a leaf.
 fn asked_further(
@@ -42,13 +72,35 @@ fn asked_further(
     }
 }
 
+/// The same, with whether all unifiers say no.
+fn asked_or_known(
+    alloc: Global,
+    sig: &Signature,
+    table: &Table,
+    state: &State,
+    reading: &Reading,
+    heads: &[Option<OpId>],
+) -> Option<(usize, usize, Question)>
+    requires closed { IsClosed sig.now table.now state.now }
+    requires sums { HasSums sig.now table.now }
+    requires reading { IsReading sig.now table.now (class_of state.now) reading.now }
+    requires heads { TellHeads sig.now table.now state.now heads.now }
+    ensures within { IfSome result (λ p. (p.0 < length table.now.nodes) × (p.1 < length table.now.nodes)) }
+    ensures open { IfSome result (λ p. IsOpen state.now p.0 p.1) }
+{
+    match asked_further(alloc, sig, table, state, reading) {
+        None => None,
+        Some((i, j)) => Some((i, j, question(sig, table, state, heads, i, j))),
+    }
+}
+
 /// What a state is asked; none where it is a leaf, or impossible.
 fn asked(
     alloc: Global,
     sig: &Signature,
     table: &Table,
     state: &State,
-) -> Result<Option<(usize, usize)>, NoMemory>
+) -> Result<Option<(usize, usize, Question)>, NoMemory>
     requires closed { IsClosed sig.now table.now state.now }
     requires sums { HasSums sig.now table.now }
     requires arguments { HoldsArguments table.now }
@@ -57,39 +109,93 @@ fn asked(
     ensures open { IfOk result (λ o. IfSome o (λ p. IsOpen state.now p.0 p.1)) }
 {
     let reading = read(alloc, sig, table, state)?;
-    match infer(alloc, sig, table, state, &reading)? {
+    let heads = heads_of_values(alloc, sig, table, state, &reading)?;
+    match infer(alloc, sig, table, state, &reading, heads.as_slice())? {
         Inferred::Impossible => Ok(None),
-        Inferred::Together(i, j) => Ok(Some((i, j))),
-        Inferred::Question(i, j) => Ok(Some((i, j))),
-        Inferred::Nothing => Ok(asked_further(alloc, sig, table, state, &reading)),
+        Inferred::Together(i, j) => Ok(Some((i, j, Question::Together))),
+        Inferred::Question(i, j) => Ok(Some((i, j, Question::Open))),
+        Inferred::Nothing => Ok(asked_or_known(
+            alloc,
+            sig,
+            table,
+            state,
+            &reading,
+            heads.as_slice(),
+        )),
     }
 }
 
-/// Asks the top its question, or takes it out; false where the tree is empty.
-fn step(alloc: Global, sig: &Signature, table: &Table, tree: &mut Tree) -> Result<bool, NoMemory>
+/// Asks the top, or takes on what is known; how many questions that is.
+fn answer(
+    alloc: Global,
+    sig: &Signature,
+    table: &Table,
+    tree: &mut Tree,
+    i: usize,
+    j: usize,
+    question: Question,
+) -> Result<usize, NoMemory>
+    requires closed { AreClosed sig.now table.now tree.old }
+    requires left { i < length table.now.nodes }
+    requires right { j < length table.now.nodes }
+    requires open { IsOpenAtTop tree.old i j }
+    ensures closed { OnOk result (AreClosed sig.now table.now tree.new) }
+    ensures falls { OnOk result (weight tree.new < weight tree.old) }
+{
+    match question {
+        Question::Open => {
+            tree.ask(alloc, sig, table, i, j)?;
+            Ok(1)
+        }
+        Question::Together => {
+            tree.meet(alloc, sig, table, i, j)?;
+            Ok(0)
+        }
+        Question::Apart => {
+            tree.part(alloc, sig, table, i, j)?;
+            Ok(0)
+        }
+    }
+}
+
+/// One, if there is a state.
+fn one_if(there: bool) -> Option<usize>
+    ensures { IfSome result (λ n. IsTrue there) }
+{
+    if there { Some(1) } else { None }
+}
+
+/// Asks the top its question, takes on what is known of it, or takes it out; none where the tree is empty, else how many
+/// states were looked at that no fact is known of.
+fn step(
+    alloc: Global,
+    sig: &Signature,
+    table: &Table,
+    tree: &mut Tree,
+) -> Result<Option<usize>, NoMemory>
     requires closed { AreClosed sig.now table.now tree.old }
     requires sums { HasSums sig.now table.now }
     requires arguments { HoldsArguments table.now }
     requires few { length table.now.subterms ≤ COLUMNS }
     ensures closed { OnOk result (AreClosed sig.now table.now tree.new) }
-    ensures falls { IfOk result (λ more. IsTrue more → weight tree.new < weight tree.old) }
+    ensures falls { IfOk result (λ o. IfSome o (λ n. weight tree.new < weight tree.old)) }
 {
     match tree.top() {
-        None => Ok(false),
+        None => Ok(None),
         Some(state) => match asked(alloc, sig, table, state)? {
-            Some((i, j)) => {
-                tree.ask(alloc, sig, table, i, j)?;
-                Ok(true)
+            Some((i, j, question)) => {
+                let states = answer(alloc, sig, table, tree, i, j, question)?;
+                Ok(Some(states))
             }
             None => {
-                let more = tree.take_top().is_some();
-                Ok(more)
+                let there = tree.take_top().is_some();
+                Ok(one_if(there))
             }
         },
     }
 }
 
-/// How many states are looked at.
+/// How many states are looked at that no fact is known of.
 fn count_states(alloc: Global, sig: &Signature, table: &Table) -> Result<usize, NoMemory>
     requires sums { HasSums sig.now table.now }
     requires arguments { HoldsArguments table.now }
@@ -98,10 +204,10 @@ fn count_states(alloc: Global, sig: &Signature, table: &Table) -> Result<usize, 
     let mut tree = Tree::new(alloc, sig, table)?;
     let mut states: usize = 0;
     'questions: loop {
-        if !step(alloc, sig, table, &mut tree)? {
-            return Ok(states);
+        match step(alloc, sig, table, &mut tree)? {
+            None => return Ok(states),
+            Some(more) => states = states.saturating_add(more),
         }
-        states = states.saturating_add(1);
     }
 }
 

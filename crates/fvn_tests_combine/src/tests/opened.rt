@@ -1,5 +1,5 @@
 //! Writes what is held of a state.
-ghost use Rattle.std.specs.Prelude.{◌≡◌, ◌≤◌, length, All};
+ghost use Rattle.std.specs.Prelude.{◌≡◌, ◌≤◌, true, length, All};
 ghost use Rattle.fvn_flat.specs.Solving.{problem_of};
 ghost use Rattle.fvn_combine_nodes.specs.Table.{IsTableOf};
 ghost use Rattle.fvn_combine_nodes.specs.States.{IsClosed, class_of};
@@ -76,7 +76,34 @@ fn push_tags(
     Ok(())
 }
 
-/// How many lists of numbers are valid, and how many of these leave no alias.
+/// How many lists of numbers keep to what sorts ask.
+fn counted_within(
+    alloc: Global,
+    sig: &Signature,
+    table: &Table,
+    state: &State,
+    reading: &Reading,
+    lists: &[Seq<Solution>],
+    tags: &[Option<OpId>],
+) -> Result<usize, NoMemory>
+    requires closed { IsClosed sig.now table.now state.now }
+    requires reading { IsReading sig.now table.now (class_of state.now) reading.now }
+    requires bases { AreBases reading.now.sums lists.now }
+{
+    let mut odometer = wheels(alloc, sig, table, state, reading, lists, tags, true)?;
+    let mut found: usize = 0;
+    'lists: loop {
+        match odometer.current() {
+            None => return Ok(found),
+            Some(_numbers) => {
+                found = found.saturating_add(1);
+                odometer.advance();
+            }
+        }
+    }
+}
+
+/// How many lists of numbers are valid, how many of these leave no alias, and how many keep to what sorts ask.
 fn push_choices(
     alloc: Global,
     sig: &Signature,
@@ -91,7 +118,7 @@ fn push_choices(
     requires reading { IsReading sig.now table.now (class_of state.now) reading.now }
     requires bases { AreBases reading.now.sums lists.now }
 {
-    let mut odometer = wheels(alloc, sig, table, state, reading, lists, tags)?;
+    let mut odometer = wheels(alloc, sig, table, state, reading, lists, tags, false)?;
     let mut found: usize = 0;
     let mut left: usize = 0;
     while let Some(numbers) = odometer.current() {
@@ -101,8 +128,10 @@ fn push_choices(
         }
         odometer.advance();
     }
+    let within = counted_within(alloc, sig, table, state, reading, lists, tags)?;
     push_number(out, found)?;
-    push_number(out, left)
+    push_number(out, left)?;
+    push_number(out, within)
 }
 
 /// The tags by these numbers, and the choices under them.
@@ -120,7 +149,7 @@ fn push_tagged(
     requires closed { IsClosed sig.now table.now state.now }
     requires reading { IsReading sig.now table.now (class_of state.now) reading.now }
     requires bases { AreBases reading.now.sums lists.now }
-    requires shared { AreSharedClasses sig.now table.now (class_of state.now) list.now }
+    requires shared { AreSharedClasses sig.now table.now (class_of state.now) true list.now }
     requires numbered { length numbers.now ≡ length list.now }
 {
     let n = table.nodes().len();
@@ -152,7 +181,7 @@ fn push_all(
     requires closed { IsClosed sig.now table.now state.now }
     requires reading { IsReading sig.now table.now (class_of state.now) reading.now }
     requires bases { AreBases reading.now.sums lists.now }
-    requires shared { AreSharedClasses sig.now table.now (class_of state.now) list.now }
+    requires shared { AreSharedClasses sig.now table.now (class_of state.now) true list.now }
     requires few { All (λ c. length c.users ≤ 1000) list.now }
 {
     let counts = option_counts(alloc, list)?;
@@ -181,7 +210,7 @@ fn push_read(
         Err(_) => out.push_str(" refused")?,
         Ok(lists) => {
             push_sizes(out, lists.as_slice())?;
-            let list = shared(alloc, sig, table, state, reading)?;
+            let list = shared(alloc, sig, table, state, reading, true)?;
             push_classes(out, list.as_slice())?;
             push_all(
                 alloc,

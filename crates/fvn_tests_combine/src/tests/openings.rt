@@ -12,34 +12,38 @@ use std::alloc::Global;
 //
 // A term is written with each operator after its arguments, sums nested to the right. First comes how many
 // minimal solutions each sum operator has; then each shared class, as the number of its node, with the
-// operators that use it; then for each list of tags how many choices there are, and how many of these leave
-// no alias. `oracle/openings.py` prints these lines from the problems, by the definitions alone.
-const OPENED: &str = "A0 A1 k = A2 A3 k => 4 | | 77
-A0 A1 l = A2 A3 l => 4 | | 11
-A0 f k = A1 g k => 4 | | 22
-A0 h A1 k = A2 A3 k => 4 | | 44
-A0 A1 k = A2 A0 h l => 2 2 | | 00
-A0 A1 k h = A2 h => 2 | | 11
-A0 A1 l = A0 A2 k => 2 2 | 0lk | k00 l10 .00
-A0 A0 k = A1 A2 k => 3 | | 55
-A0 A1 k A2 k = A3 => 3 | | 11
-A0 A1 l = A2; A0 A3 k = A4 => 2 2 | 0lk | k11 l11 .11
-A0 = A1 h => | | 11
-A0 A1 k A0 A2 l i = A3 => 2 2 | 0kl | l11 k11 .11
-A0 A1 k A0 A1 l i = A2 => 2 2 | 0kl 1kl | ll11 lk11 l.11 kl11 kk11 k.11 .l11 .k11 ..11
-A0 A0 k A0 f l i = A1 => 1 2 | 0kl | l11 k11 .11
-A0 A1 k = A2; A0 A1 l A3 A3 l i = A4 => 2 3 | 0kl 1kl | ll11 lk11 l.11 kl11 kk11 k.11 .l11 .k11 ..11";
+// operators that use it and may head its value; then for each list of tags how many choices there are, how many
+// of these leave no alias, and how many keep to what sorts ask, each modulo 40. `oracle/openings.py` prints these
+// lines from the problems, by the definitions alone.
+const OPENED: &str = "A0 A1 k = A2 A3 k => 4 | | 777
+A0 A1 l = A2 A3 l => 4 | | 111
+A0 f k = A1 g k => 4 | | 222
+A0 h A1 k = A2 A3 k => 4 | | 444
+A0 A1 k = A2 A0 h l => 2 2 | | 000
+A0 A1 k h = A2 h => 2 | | 111
+A0 A1 l = A0 A2 k => 2 2 | 0lk | k000 l101 .000
+A0 A0 k = A1 A2 k => 3 | | 555
+A0 A1 k A2 k = A3 => 3 | | 111
+A0 A1 l = A2; A0 A3 k = A4 => 2 2 | 0lk | k111 l111 .111
+A0 = A1 h => | | 111
+A0 A1 k A0 A2 l i = A3 => 2 2 | 0kl | l111 k111 .111
+A0 A1 k A0 A1 l i = A2 => 2 2 | 0kl 1kl | ll111 lk111 l.111 kl111 kk111 k.111 .l111 .k111 ..111
+A0 A0 k A0 f l i = A1 => 1 2 | 0kl | l111 k111 .111
+A0 A1 k = A2; A0 A1 l A3 A3 l i = A4 => 2 3 | 0kl 1kl | ll111 lk111 l.111 kl111 kk111 k.111 .l111 .k111 ..111";
 
 // The same, where a variable B is of a sort of elements, and no identity leaves elements alone: all valid choices are
-// on the wheels. `oracle/openings.py elements` prints these lines.
-const OPENED_WITH_ELEMENTS: &str = "A0 A1 l = A2 A3 l => 4 | | @@
-B0 A1 l = B2 A3 l => 4 | | @@
-B0 f l = B1 A2 l => 4 | | 88
-A0 A1 l = B2 => 2 | | 44
-B0 A1 k = B2 A3 k => 4 | | 77
-A0 A1 l = A2; A0 A3 k = A4 => 2 2 | 0lk | k22 l22 .22
-B0 A1 k B0 A2 l i = A3 => 2 2 | 0kl | l22 k22 .22
-A0 A1 k = A2; A0 A1 l A3 A3 l i = A4 => 2 3 | 0kl 1kl | ll22 lk22 l.22 kl22 kk22 k.22 .l22 .k22 ..22";
+// on the wheels, and a class with an element has no tag but none; of the last row, which the program is slow at, each element has two solutions, of which it takes one,
+// both or none, and by its sort one. `oracle/openings.py elements` prints these lines.
+const OPENED_WITH_ELEMENTS: &str = "A0 A1 l = A2 A3 l => 4 | | @@@
+B0 A1 l = B2 A3 l => 4 | | @@4
+B0 f l = B1 A2 l => 4 | | 882
+A0 A1 l = B2 => 2 | | 442
+B0 A1 k = B2 A3 k => 4 | | 773
+A0 A1 l = A2; A0 A3 k = A4 => 2 2 | 0lk | k222 l222 .222
+B0 A1 k B0 A2 l i = A3 => 2 2 | 0 | .222
+A0 A1 k = A2; A0 A1 l A3 A3 l i = A4 => 2 3 | 0kl 1kl | ll222 lk222 l.222 kl222 kk222 k.222 .l222 .k222 ..222
+A0 A1 l = B2 B3 l B4 l => 6 | | HH8
+A0 A1 l = B2 B3 l B4 l B5 l B6 l B7 l => < | | @@H";
 
 /// What is held of the problem.
 fn push_held(

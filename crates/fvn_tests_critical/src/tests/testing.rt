@@ -34,7 +34,8 @@ const ROWS: &str =
 4096 1000 1000 sort S . op mt : -> S . op _*_ : S S -> S [assoc comm id: mt] . op - : S -> S . vars X Y : S . eq _*_(X,-(X)) = mt [variant] . eq _*_(X,-(X),Y) = Y [variant] . eq -(mt) = mt [variant] . eq -(-(X)) = X [variant] . => apart 1 1 1(#,#) 1(#,1(#,2(1(#,1(#,2(1(#,#)))))))
 4096 1000 1000 sorts A B . subsort A < B . op f : B -> A . op g : B -> B . var X : B . eq f(X) = g(X) [variant] . => sorts 1
 4096 1000 1000 sorts A B . subsort A < B . ops a b : -> A . op f : B -> A . op g : B -> B . var X : B . eq a = b [variant] . eq f(X) = g(X) [variant] . eq a = f(a) [variant] . => sorts 2
-4096 1000 1000 sort S . op a : -> S . op f : S -> S . var X : S . eq f(X) = f(X) [variant] . => steps 1(#) 1(#)
+4096 1000 1000 sort S . op a : -> S . op f : S -> S . var X : S . eq f(X) = f(X) [variant] . => confluent
+4096 1000 1000 sort S . ops a b : -> S . op f : S -> S . var X : S . eq f(X) = f(X) [variant] . eq f(a) = b [variant] . => steps 2(0) 2(0)
 4096 0 1000 sort S . ops a b c d e : -> S . ops f g : S -> S . op p : S S -> S [assoc comm] . var X : S . eq a = b [variant] . eq a = c [variant] . eq b = c [variant] . => steps 1 1
 4096 1000 5 sorts Msg Key . op a : -> Msg . op k : -> Key . ops enc dec : Msg Key -> Msg . vars X M : Msg . vars Y K : Key . eq dec(enc(M,K),K) = M [variant] . => size
 4096 1000 10 sorts Msg Key . op a : -> Msg . op k : -> Key . ops enc dec : Msg Key -> Msg . vars X M : Msg . vars Y K : Key . eq dec(enc(M,K),K) = M [variant] . => confluent

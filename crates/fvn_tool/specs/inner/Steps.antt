@@ -1,8 +1,7 @@
 -- What the steps of a run give.
-use Rattle.std.specs.Prelude.{◌≡◌, ◌≤◌, ◌+◌, ℕ, List, length}
-use Rattle.std.specs.Io.KnownBytes.{IsAtEnd}
+use Rattle.std.specs.Prelude.{◌≡◌, ◌+◌, ℕ, List}
 use Rattle.fvn_base.specs.declared.limits.TheConstants.{MODULE_BYTES}
-use Rattle.fvn_outside.specs.Source.{Takes, TakesCount}
+use Rattle.fvn_outside.specs.Source.{TakesCount}
 use Rattle.fvn_cmd.specs.declared.status.Status.{Status}
 use Rattle.fvn_cmd.specs.declared.status.Status.TheVariants.{Usage, ModuleRefused}
 use Rattle.fvn_cmd_check.specs.Checks.{IsCheckReply}
@@ -11,12 +10,13 @@ use Rattle.fvn_cmd_verify.specs.Replies.{IsVerifyReply}
 use Rattle.fvn_cmd_unify.specs.Replies.{IsUnifyReply}
 use Rattle.fvn_cmd_variants.specs.Replies.{IsVariantsReply}
 use Rattle.fvn_cmd_vunify.specs.Replies.{IsVunifyReply}
-use Rattle.fvn_tool.specs.Words.{Command, check, unify, verify, terminates, variants, vunify, IsCommand, AreNoCommand}
-use Rattle.fvn_tool.specs.Asked.{too_long_line}
+use Rattle.fvn_cmd_work.specs.Replies.{IsWorkReply}
+use Rattle.fvn_tool.specs.Words.{Command, check, unify, verify, terminates, variants, vunify, work, IsCommand, AreNoCommand, ReadsModule, text_for}
+use Rattle.fvn_tool.specs.Asked.{too_long_line, IsShort}
 use Rattle.fvn_tool.specs.Runs.{Outside}
-use Rattle.fvn_tool.specs.Outcomes.{usage_line}
+use Rattle.fvn_tool.specs.Outcomes.{usage_line, AreRead}
 
--- this status with this text is the reply of the command's crate over the bytes of a module
+-- this status with this text is the reply of the command's crate, over the bytes of a module where it reads them
 abbrev pub IsCommandReply : Command → List ℕ → Status → List ℕ → Type 0
 IsCommandReply check bytes status text = IsCheckReply bytes status text
 IsCommandReply (unify word) bytes status text = IsUnifyReply bytes word status text
@@ -24,13 +24,14 @@ IsCommandReply (verify problem bindings steps) bytes status text = IsVerifyReply
 IsCommandReply (terminates word) bytes status text = IsTerminatesReply bytes word status text
 IsCommandReply (variants word reach) bytes status text = IsVariantsReply bytes word reach status text
 IsCommandReply (vunify word reach) bytes status text = IsVunifyReply bytes word reach status text
+IsCommandReply (work number) bytes status text = IsWorkReply number status text
 
 -- what the words as they are read, and the source, lead to
 pub data IsGivenOutcome (words : List (List ℕ)) (source : Outside) : Status → List ℕ → Type 0 where
   is_usage : {text : List ℕ} → AreNoCommand words → text ≡ usage_line → IsGivenOutcome words source Usage text
-  is_long : {text : List ℕ} (command : Command) → IsCommand words command →
+  is_long : {text : List ℕ} (command : Command) → IsCommand words command → ReadsModule command →
       TakesCount source.before source.after (MODULE_BYTES + 1) → text ≡ too_long_line →
       IsGivenOutcome words source ModuleRefused text
   is_replied : {status : Status} {text : List ℕ} (command : Command) (bytes : List ℕ) →
-      IsCommand words command → Takes source.before source.after bytes → IsAtEnd source.after →
-      length bytes ≤ MODULE_BYTES → IsCommandReply command bytes status text → IsGivenOutcome words source status text
+      IsCommand words command → AreRead command source bytes → IsShort (text_for command bytes) →
+      IsCommandReply command bytes status text → IsGivenOutcome words source status text

@@ -8,6 +8,8 @@ use Rattle.fvn_terms.specs.Substitution.{Substitution}
 use Rattle.fvn_terms.specs.Equality.{BEqual}
 use Rattle.fvn_terms.specs.Rewriting.{IsConfluent}
 use Rattle.fvn_forms.specs.Flat.{FlatTerm, plain}
+use Rattle.fvn_forms.specs.Canon.{canon}
+use Rattle.fvn_flat.specs.Fits.{Fits}
 use Rattle.fvn_flat.specs.declared.solver.Normal.{Normal}
 use Rattle.fvn_flat.specs.declared.solver.Normal.TheVariants.{Form, Steps as OutOfSteps, Size as OutOfSize}
 use Rattle.fvn_verify.specs.declared.verdict.Verdict.{Verdict}
@@ -15,7 +17,7 @@ use Rattle.fvn_verify.specs.declared.verdict.Verdict.TheVariants.{Yes, No, Steps
 use Rattle.fvn_verify.specs.declared.comparing.Compared.{Compared}
 use Rattle.fvn_verify.specs.declared.comparing.Compared.TheVariants.{Found, Ended}
 use Rattle.fvn_rewrite.specs.Usable.{Rewriting, equations_by}
-use Rattle.fvn_verify.specs.Verdicts.{Setting, sides_in_turn, AreEqual, IsFormOf, IsUnfinished, IsTooLarge, HasForm, MeetInForm, IsFirstDifference}
+use Rattle.fvn_verify.specs.Verdicts.{Setting, instance, sides_in_turn, AreEqual, IsFormOf, IsUnfinished, IsTooLarge, HasForm, MeetInForm, IsFirstDifference}
 
 -- what the sides are rewritten in where this substitution is put in
 abbrev pub under : Rewriting → Substitution → Setting
@@ -43,11 +45,22 @@ module _ (g : Setting) where
   IsSideAs t (OutOfSteps start end) = IsUnfinished g t start end
   IsSideAs t (OutOfSize f) = IsTooLarge g t f
 
-  -- forms of both sides that differ; where the equations are confluent, the sides are then not equal in the theory
+  -- f is the flat form of the side
+  pub record IsFlatForm (t : Plain) (f : FlatTerm) : Type 0 where
+    pub is : f ≡ canon g.declarations (instance g.by t)
+    pub equal : BEqual g.declarations (instance g.by t) (plain f)
+    pub fits : Fits g.declarations f
+
+  -- the sides of the pair are not equal modulo the axioms
+  abbrev pub HasTwoInstances : Plain × Plain → Type 0
+  HasTwoInstances p = BEqual g.declarations (instance g.by p.0) (instance g.by p.1) → ⊥
+
+  -- forms of both sides that differ, as the sides do; where the equations are confluent, the sides are then not equal in the theory
   pub record AreDifferent (p : Plain × Plain) (left right : FlatTerm) : Type 0 where
     pub left_form : IsFormOf g p.0 left
     pub right_form : IsFormOf g p.1 right
     pub differ : BEqual g.declarations (plain left) (plain right) → ⊥
+    pub instances : HasTwoInstances p
     pub apart : IsConfluent g.declarations g.equations → AreEqual g.declarations g.equations g.by p → ⊥
 
   -- the sides are equal and meet in a form, or have these forms, which differ

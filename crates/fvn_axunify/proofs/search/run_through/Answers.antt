@@ -1,8 +1,22 @@
 -- The search goes on, or ends.
-use Rattle.std.proofs.Common.{subst, arith, length, ◌<◌}
+use Rattle.std.proofs.Common.{subst, inr, arith, length, ◌<◌}
 use Rattle.fvn_axunify.specs.inner.Nexts.{IsNext}
-use Rattle.fvn_axunify.proofs.Ends.{end_found, given_here, of_after, goes_on}
+use Rattle.fvn_axunify.proofs.Ends.{kept_none, few_none, run_begun, end_found, ends_so, given_here, of_after, goes_on, run_on, run_full}
 use Rattle.fvn_axunify.proofs.search.run_through.Goals as goal
+
+pub next-init : goal.next-init
+next-init c =
+    let d = c.args.task.now.sig.now in
+    let given = c.args.task.now.problem.now in
+    let vars = c.args.task.now.vars.now in
+    let none = c.new-kept.ensures.items in
+    record {
+      of = c.requires.of;
+      are = kept_none d given vars c.new-kept.result.items none c.args.task.now.first;
+      few = few_none d given vars c.new-kept.result.items none c.args.task.now.limits.unifiers c.requires.some;
+      all = λ u h. inr (c.requires.all u h);
+      run = run_begun d given vars c.new-kept.result.items none c.args.combiner.now;
+    }
 
 pub with_refinements-requires-clause-given : goal.with_refinements-requires-clause-given
 with_refinements-requires-clause-given c =
@@ -10,11 +24,25 @@ with_refinements-requires-clause-given c =
     given_here c.args.task.now.sig.now c.args.task.now.problem.now c.args.task.now.vars.now c.args.task.now.first c.args.task.now.limits.unifiers c.args.task.now.limits.size
     c.next.combiner c.step.new.combiner c.next.invariant.of c.in-Given.g next.0
 
-pub returns-in-End : goal.returns-in-End
-returns-in-End c =
+pub returns-in-End-clause-found : goal.returns-in-End-clause-found
+returns-in-End-clause-found c =
     end_found c.args.task.now.sig.now c.args.task.now.problem.now c.args.task.now.vars.now c.args.task.now.first c.args.task.now.limits.unifiers c.args.task.now.limits.size
     c.next.combiner c.step.new.combiner c.next.invariant.of c.next.kept.items c.next.invariant.are c.next.invariant.few c.next.invariant.all c.in-End.end
     (subst (IsNext c.next.combiner c.step.new.combiner) c.in-End.is c.in_ok-end.ensures.next)
+
+pub returns-in-End-clause-run : goal.returns-in-End-clause-run
+returns-in-End-clause-run c = record {
+  last = c.next.combiner;
+  run = c.next.invariant.run;
+  ended = ends_so c.args.task.now.sig.now c.args.task.now.problem.now c.args.task.now.vars.now c.next.combiner c.step.new.combiner c.in-End.end
+      (subst (IsNext c.next.combiner c.step.new.combiner) c.in-End.is c.in_ok-end.ensures.next);
+}
+
+pub returns-then-most-len-clause-run : goal.returns-then-most-len-clause-run
+returns-then-most-len-clause-run c =
+    let next = subst (IsNext c.next.combiner c.step.new.combiner) c.in-Given.is c.in_ok-end.ensures.next in
+    run_full c.args.task.now.sig.now c.args.task.now.problem.now c.args.task.now.vars.now c.args.task.now.first c.args.task.now.limits.unifiers c.args.task.now.limits.size
+    c.next.combiner c.step.new.combiner c.next.invariant.of c.in-Given.g next.0 c.args.combiner.now c.next.kept.items c.in_ok-kept-in-Given.kept.items c.in_ok-kept-in-Given.ensures c.next.invariant.run
 
 pub next-preserved : goal.next-preserved
 next-preserved c =
@@ -32,4 +60,5 @@ next-preserved c =
       are = w.are;
       few = few;
       all = goes_on d given vars first most size c.next.combiner c.step.new.combiner c.next.invariant.of c.in-Given.g next.0 c.next.kept.items c.in_ok-kept-in-Given.kept.items w few c.next.invariant.all;
+      run = run_on d given vars first most size c.next.combiner c.step.new.combiner c.next.invariant.of c.in-Given.g next.0 c.args.combiner.now c.next.kept.items c.in_ok-kept-in-Given.kept.items w few c.next.invariant.run;
     }

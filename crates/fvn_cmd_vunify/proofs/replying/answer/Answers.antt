@@ -55,7 +55,7 @@ returns g c =
     let p = c.args.problem.now in
     let reach = c.args.search.now.reach in
     let d_is = c.signature-signature.ensures in
-    answer-told m p reach c.requires.problem c.in_ok-given.given.pairs (flat_from m p _ d_is _ c.as_slice.ensures c.in_ok-given.given.pairs c.in_ok-given.ensures) c.in_ok-r.r c.in_ok-r.ensures
+    answer-told m p reach c.requires.problem c.in_ok-given.given.pairs (flat_from m p _ d_is _ c.as_slice.ensures c.in_ok-given.given.pairs c.in_ok-given.ensures) c.in_ok-r.r c.in_ok-r.ensures c.rewriting_is_lawful.ensures c.flattened_pairs_are_given.ensures
     (record {
       irreducible = c.theory_unifiers_have_irreducible_values.ensures;
       shortest = c.complete_irreducible_unifiers_are_shortest.ensures;

@@ -66,4 +66,4 @@ returns g c =
     (subst (λ z. g.A.AxiomSolver.most_unifiers z ≡ UNIFIERS) (sym same) c.requires.solver.unifiers_are))
     _ c.in_ok-x.x c.args.search.now.workers _ (c.as_slice.ensures.value ∙ c.in_ok-sides.ensures.exact) _
     (limits_are m reach c.args.search.now.workers _ c.limits.ensures.levels c.limits.ensures.variants c.limits.ensures.steps c.limits.ensures.size c.limits.ensures.workers)
-    c.in_ok-x.ensures.exploration c.in_ok-r.r c.in_ok-r.ensures.solved)
+    c.in_ok-x.ensures.exploration c.explorations_are_lawful.ensures c.in_ok-r.r c.in_ok-r.ensures.solved)

@@ -18,7 +18,7 @@ returns-in_err-end-in-Ends-clause-advanced c =
     let k = c.args.task.now in
     let p = err_from_is_err_and c.from_residual-in_err-end-in-Ends.result c.from_residual-in_err-end-in-Ends.ensures.1 in
     let h = subst (IsFound k c.args.tree.now c.args.leaf.now c.next_unifier.new.tree c.next_unifier.new.leaf) c.in-Ends.is c.in_ok-next_unifier.ensures.found in
-    subst (IsAdvanced (search_by k c.args.tree.now c.args.leaf.now c.args.ended.now) (search_by k c.next_unifier.new.tree c.next_unifier.new.leaf c.args.ended.now)) (sym (p.1 ∙ ap Err p.2)) (refl, h.1)
+    subst (IsAdvanced (search_by k c.args.tree.now c.args.leaf.now c.args.ended.now) (search_by k c.next_unifier.new.tree c.next_unifier.new.leaf c.args.ended.now)) (sym (p.1 ∙ ap Err p.2)) (refl, h.2)
 
 pub returns-in-Nothing-clause-advanced : goal.returns-in-Nothing-clause-advanced
 returns-in-Nothing-clause-advanced c =
@@ -36,4 +36,4 @@ returns-in_ok-end-in-Ends-clause-advanced c =
     let before = search_by k c.args.tree.now c.args.leaf.now c.args.ended.now in
     let after = search_by k c.next_unifier.new.tree c.next_unifier.new.leaf (Some c.in-Ends.cause) in
     let h = subst (IsFound k c.args.tree.now c.args.leaf.now c.next_unifier.new.tree c.next_unifier.new.leaf) c.in-Ends.is c.in_ok-next_unifier.ensures.found in
-    subst (λ end. IsAdvanced before after (Err end)) (sym c.in_ok-end-in-Ends.ensures) (end_told before after c.in-Ends.cause h.0 refl h.1)
+    subst (λ end. IsAdvanced before after (Err end)) (sym c.in_ok-end-in-Ends.ensures) (end_told before after c.in-Ends.cause h.0 h.1 refl h.2)

@@ -3,9 +3,9 @@ use Rattle.std.proofs.Common.{sym, subst, arith}
 use Rattle.fvn_flat.specs.Solving.{problem_of}
 use Rattle.fvn_combine_nodes.specs.States.{IsClosed}
 use Rattle.fvn_combine.specs.Tasks.{Combining}
-use Rattle.fvn_combine_inferring.specs.Inferred.{IsInferred}
-use Rattle.fvn_combine_inferring.specs.declared.inferring.Inferred.TheVariants.{Impossible}
-use Rattle.fvn_combine.proofs.Inferring.{none_admitted}
+use Rattle.fvn_combine_inferring.specs.Inferred.{IsInferred, MustMeet}
+use Rattle.fvn_combine_inferring.specs.declared.inferring.Inferred.TheVariants.{Impossible, Together}
+use Rattle.fvn_combine.proofs.Inferring.{none_admitted, together_admitted}
 use Rattle.fvn_combine.proofs.looking.look_at.Goals as goal
 
 pub read-requires-clause-closed : goal.read-requires-clause-closed
@@ -20,6 +20,10 @@ read-requires-clause-few c =
     let m = c.task.invariant.small in
     omega (arith, n, m)
 
+pub heads_of_values-requires-clause-sums : goal.heads_of_values-requires-clause-sums
+heads_of_values-requires-clause-sums c =
+    c.tables_have_sums.ensures c.task.inside.sig.now c.task.invariant.good.fits (problem_of c.task.inside.problem.now) c.task.invariant.is_given.kinds c.task.inside.table c.task.invariant.well_made c.task.invariant.table_of
+
 pub infer-requires-clause-sums : goal.infer-requires-clause-sums
 infer-requires-clause-sums c =
     c.tables_have_sums.ensures c.task.inside.sig.now c.task.invariant.good.fits (problem_of c.task.inside.problem.now) c.task.invariant.is_given.kinds c.task.inside.table c.task.invariant.well_made c.task.invariant.table_of
@@ -30,3 +34,13 @@ returns-in-Impossible c =
     none_admitted k c.recall.ensures c.unifiers_go_with.ensures c.args.state.now c.requires
     (subst (λ (k : Combining). IsInferred k.declarations k.table c.args.state.now Impossible) c.task.view_is
     (subst (IsInferred c.task.inside.sig.now c.task.inside.table c.args.state.now) c.in-Impossible.is c.in_ok-infer.ensures))
+
+pub returns-in-Together : goal.returns-in-Together
+returns-in-Together c =
+    let k = c.args.task.now in
+    let i = c.in-Together.i in
+    let j = c.in-Together.j in
+    let must : MustMeet k.declarations k.table c.args.state.now i j =
+    subst (λ (k : Combining). IsInferred k.declarations k.table c.args.state.now (Together i j)) c.task.view_is
+    (subst (IsInferred c.task.inside.sig.now c.task.inside.table c.args.state.now) c.in-Together.is c.in_ok-infer.ensures) in
+    (must.open_pair.left, must.open_pair.right, must.open_pair.undecided, together_admitted k c.recall.ensures c.unifiers_go_with.ensures c.args.state.now c.requires i j must.open_pair.left must.open_pair.right must.equal)

@@ -22,17 +22,17 @@ option_counts-requires c = record {
 pub returns-clause-all : goal.returns-clause-all
 returns-clause-all c =
     let classes = c.in_ok-classes.classes.items in
-    let exact = subst (λ (k : Combining). AreSharedClasses k.declarations k.table (class_of c.args.state.now) classes) c.task.view_is c.in_ok-classes.ensures.exact in
+    let exact = subst (λ (k : Combining). AreSharedClasses k.declarations k.table (class_of c.args.state.now) k.sorted classes) c.task.view_is c.in_ok-classes.ensures.exact in
     let counts = c.in_ok-tags.ensures.counts ∙ c.in_ok-counts.ensures ∙ ap tag_counts (c.as_slice.ensures.value ∙ sym c.from_vec-2.ensures) in
     all_to_come c.args.task.now c.recall.ensures c.args.state.now c.args.reading c.from_vec.result c.from_vec-2.result c.in_ok-tags.tags c.requires.ready c.requires.reading
-    (subst (AreSharedClasses c.args.task.now.declarations c.args.task.now.table (class_of c.args.state.now)) (sym c.from_vec-2.ensures) exact)
+    (subst (AreSharedClasses c.args.task.now.declarations c.args.task.now.table (class_of c.args.state.now) c.args.task.now.sorted) (sym c.from_vec-2.ensures) exact)
     c.covering_choices_are_listed.ensures counts c.in_ok-tags.ensures.all_pending
 
 pub returns-clause-few : goal.returns-clause-few
 returns-clause-few c =
     let k = c.args.task.now in
     let classes = c.in_ok-classes.classes.items in
-    let exact = subst (λ (k : Combining). AreSharedClasses k.declarations k.table (class_of c.args.state.now) classes) c.task.view_is c.in_ok-classes.ensures.exact in
+    let exact = subst (λ (k : Combining). AreSharedClasses k.declarations k.table (class_of c.args.state.now) k.sorted classes) c.task.view_is c.in_ok-classes.ensures.exact in
     let counts = c.in_ok-tags.ensures.counts ∙ c.in_ok-counts.ensures ∙ ap tag_counts c.as_slice.ensures.value in
     let few = few_tags k c.sum_operators_are_few.ensures c.args.state.now c.args.reading c.requires.reading classes exact c.in_ok-classes.ensures.few in
     let bounded = subst (λ l. tags_left c.in_ok-tags.tags ≤ product l) counts c.in_ok-tags.ensures.bounded in

@@ -2,7 +2,7 @@
 use Rattle.std.proofs.Common.{◌<◌, ◌≤◌, sym, subst}
 use Rattle.std.proofs.Math.Nat.{le_trans, lt_of_lt_of_le}
 use Rattle.std.proofs.lemmas.Result.{err_from_is_err_and}
-use Rattle.fvn_combine.specs.Search.{IsCoveredAt, IsOpenedAt}
+use Rattle.fvn_combine.specs.Search.{HasNoQuestion, IsCoveredAt, IsOpenedAt}
 use Rattle.fvn_combine.specs.Advancing.{IsCovered}
 use Rattle.fvn_combine.specs.inner.Found.{IsDrawnFrom, IsStep, IsAheadAsBefore, AreFound, LeavesLess}
 use Rattle.fvn_combine.specs.Work.{left_at}
@@ -19,7 +19,7 @@ pub returns-in-TooLarge-clause-found : goal.returns-in-TooLarge-clause-found
 returns-in-TooLarge-clause-found c =
     let k = c.args.task.now in
     let h = subst (IsDrawnFrom k (IsCoveredAt k c.steps.leaf) (IsCoveredAt k c.next_in.new.leaf)) c.in-TooLarge.is c.in_ok-next_in.ensures.drawn in
-    (h.0, leaf_kept k c.args.tree.now c.args.leaf.now c.steps.tree c.steps.leaf c.steps.invariant.same c.next_in.new.leaf h.1 c.next_in.ensures.fewer)
+    (h.0, tt, leaf_kept k c.args.tree.now c.args.leaf.now c.steps.tree c.steps.leaf c.steps.invariant.same c.next_in.new.leaf h.1 c.next_in.ensures.fewer)
 
 pub returns-in-Unifier-clause-found : goal.returns-in-Unifier-clause-found
 returns-in-Unifier-clause-found c =
@@ -73,7 +73,7 @@ steps-preserved c =
 pub returns-in-End-clause-opened : goal.returns-in-End-clause-opened
 returns-in-End-clause-opened c =
     let s = subst (IsStep c.args.task.now c.steps.tree c.next_in.new.leaf c.take_step.new.tree c.take_step.new.leaf) c.in-End.is c.in_ok-take_step.ensures.stepped in
-    subst (IsOpenedAt c.args.task.now) (sym s.2) c.next_in.ensures.opened
+    subst (IsOpenedAt c.args.task.now) (sym s.3) c.next_in.ensures.opened
 
 pub returns-in-End-clause-found : goal.returns-in-End-clause-found
 returns-in-End-clause-found c =
@@ -81,8 +81,9 @@ returns-in-End-clause-found c =
     let none = subst (IsDrawnFrom k (IsCoveredAt k c.steps.leaf) (IsCoveredAt k c.next_in.new.leaf)) c.in-Nothing.is c.in_ok-next_in.ensures.drawn in
     let s = subst (IsStep k c.steps.tree c.next_in.new.leaf c.take_step.new.tree c.take_step.new.leaf) c.in-End.is c.in_ok-take_step.ensures.stepped in (
       s.0,
-      subst (λ l. IsAheadAsBefore k c.args.tree.now c.args.leaf.now l c.take_step.new.leaf) (sym s.1)
-          (subst (IsAheadAsBefore k c.args.tree.now c.args.leaf.now c.steps.tree) (sym s.2)
+      subst (λ l. HasNoQuestion k l c.in-End.ended) (sym s.2) s.1,
+      subst (λ l. IsAheadAsBefore k c.args.tree.now c.args.leaf.now l c.take_step.new.leaf) (sym s.2)
+          (subst (IsAheadAsBefore k c.args.tree.now c.args.leaf.now c.steps.tree) (sym s.3)
           (leaf_kept k c.args.tree.now c.args.leaf.now c.steps.tree c.steps.leaf c.steps.invariant.same c.next_in.new.leaf (λ u h. absurd (none u h)) c.next_in.ensures.fewer)),
     )
 

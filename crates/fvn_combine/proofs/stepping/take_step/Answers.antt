@@ -1,8 +1,8 @@
 -- What is to come when the last state is asked, passed over or opened.
-use Rattle.std.proofs.Common.{subst, zero-le, Some, None}
+use Rattle.std.proofs.Common.{◌≡◌, ◌≢◌, ℕ, refl, subst, zero-le, Some, None}
 use Rattle.fvn_combine.proofs.Less.{left_falls}
-use Rattle.fvn_combine.proofs.Trees.{after_asking, closed_before, taken_out, taken_falls, after_passing, leaf_opened, after_opening}
-use Rattle.fvn_combine_nodes.specs.Trees.{IsAsked}
+use Rattle.fvn_combine.proofs.Trees.{after_asking, after_taking_on, closed_before, taken_out, taken_falls, after_passing, leaf_opened, after_opening}
+use Rattle.fvn_combine_nodes.specs.Trees.{IsAsked, IsTakenOn}
 use Rattle.fvn_combine.specs.Tasks.{Combining}
 use Rattle.fvn_combine.specs.inner.Found.{IsLooked}
 use Rattle.fvn_combine.specs.declared.looking.Looked.TheVariants.{Passed}
@@ -16,6 +16,28 @@ returns-in_ok-ask-in-Open-clause-stepped c = (
       (subst (λ (k : Combining). IsAsked k.declarations k.table c.args.tree.now c.ask.new.self) c.task.view_is c.in_ok-ask-in-Open.ensures.asked),
   left_falls c.args.task.now c.args.tree.now c.ask.new.self c.args.leaf.now None c.in_ok-ask-in-Open.ensures.falls zero-le,
 )
+
+pub returns-in_ok-meet-in-Together-clause-stepped : goal.returns-in_ok-meet-in-Together-clause-stepped
+returns-in_ok-meet-in-Together-clause-stepped c =
+    let l = subst (IsLooked c.args.task.now c.args.tree.now) c.in-Together.is c.in_ok-look.ensures in
+    let Holds : (ℕ → ℕ) → Type 0 = λ class. class c.in-Together.i ≡ class c.in-Together.j in (
+      c.in_ok-meet-in-Together.ensures.falls,
+      tt,
+      after_taking_on c.args.task.now c.recall.ensures c.unifiers_partition.ensures c.args.tree.now c.meet.new.self Holds
+          (subst (λ (k : Combining). IsTakenOn k.declarations k.table Holds c.args.tree.now c.meet.new.self) c.task.view_is c.in_ok-meet-in-Together.ensures.met) l.below l.last l.is l.looked.3,
+      left_falls c.args.task.now c.args.tree.now c.meet.new.self c.args.leaf.now None c.in_ok-meet-in-Together.ensures.falls zero-le,
+    )
+
+pub returns-in_ok-part-in-Apart-clause-stepped : goal.returns-in_ok-part-in-Apart-clause-stepped
+returns-in_ok-part-in-Apart-clause-stepped c =
+    let l = subst (IsLooked c.args.task.now c.args.tree.now) c.in-Apart.is c.in_ok-look.ensures in
+    let Holds : (ℕ → ℕ) → Type 0 = λ class. class c.in-Apart.i ≢ class c.in-Apart.j in (
+      c.in_ok-part-in-Apart.ensures.falls,
+      tt,
+      after_taking_on c.args.task.now c.recall.ensures c.unifiers_partition.ensures c.args.tree.now c.part.new.self Holds
+          (subst (λ (k : Combining). IsTakenOn k.declarations k.table Holds c.args.tree.now c.part.new.self) c.task.view_is c.in_ok-part-in-Apart.ensures.parted) l.below l.last l.is l.looked.3,
+      left_falls c.args.task.now c.args.tree.now c.part.new.self c.args.leaf.now None c.in_ok-part-in-Apart.ensures.falls zero-le,
+    )
 
 pub returns-in-Passed-clause-closed : goal.returns-in-Passed-clause-closed
 returns-in-Passed-clause-closed c =
@@ -40,3 +62,8 @@ returns-in-Some-clause-stepped c =
       after_opening c.args.task.now c.args.tree.now c.take_top.new.self c.in-Leaf.opened l c.in-Some.state c.in-Some.ensures.taken,
       left_falls c.args.task.now c.args.tree.now c.take_top.new.self c.args.leaf.now (Some (record { state = c.in-Some.state; opened = c.in-Leaf.opened })) c.in-Some.ensures.falls l.looked.2,
     )
+
+pub returns-in-Refused-clause-stepped : goal.returns-in-Refused-clause-stepped
+returns-in-Refused-clause-stepped c =
+    let l = subst (IsLooked c.args.task.now c.args.tree.now) c.in-Refused.is c.in_ok-look.ensures in
+    (l.looked.0, record { below = l.below; last = l.last; is = l.is; refused = l.looked.1 }, refl, refl)

@@ -1,6 +1,8 @@
 -- The numbers that are passed cover nothing, or only what is given.
 use Rattle.std.proofs.Common.{refl, sym, subst, inl, inr, arith}
+use Rattle.fvn_combine_nodes.specs.States.{class_of}
 use Rattle.fvn_combine_triangular.specs.Ready.{AreListed}
+use Rattle.fvn_combine_drawing.specs.Choices.{IsListedChoice}
 use Rattle.fvn_combine_drawing.specs.Drawn.{IsDrawnBy}
 use Rattle.fvn_combine_admissible.specs.Listed.{tag_in, systems_of, choice_of}
 use Rattle.fvn_combine.specs.Tasks.{Combining}
@@ -19,6 +21,27 @@ draw-requires-clause-listed c =
     (listed c.args.task.now c.args.state.now c.args.reading.now c.args.bases.now c.recall.ensures c.tables_are_small.ensures c.requires.reading c.requires.bases
     (tag_in c.choices.turning.tags) c.choices.turning.wheels.wheels t.are_wheels c.in-Some.numbers.now c.in-Some.ensures.greatest.0.0)
 
+pub draw-requires-clause-choice : goal.draw-requires-clause-choice
+draw-requires-clause-choice c =
+    let k = c.args.task.now in
+    let class = class_of c.args.state.now in
+    let r = c.args.reading.now in
+    let b = c.args.bases.now in
+    let n = c.in-Some.numbers.now in
+    let t = c.choices.invariant.turning in
+    let choice : IsListedChoice k.declarations k.table class r b c.choices.turning.tags n = record {
+      sorted = k.sorted;
+      shared = c.args.shared.now;
+      are_shared = c.requires.shared;
+      options = t.options;
+      are_tags = t.are_tags;
+      wheels = c.choices.turning.wheels.wheels;
+      are_wheels = t.are_wheels;
+      valid = c.in-Some.ensures.greatest.0.0;
+    } in
+    subst (λ (k : Combining). IsListedChoice k.declarations k.table class r b c.as_slice.result.now n) (sym c.task.view_is)
+    (subst (λ l. IsListedChoice k.declarations k.table class r b l n) (sym c.as_slice.ensures) choice)
+
 pub choices-preserved : goal.choices-preserved
 choices-preserved c =
     let k = c.args.task.now in
@@ -35,7 +58,7 @@ choices-preserved c =
       turning = still_turning k s r b tags old new c.advance.ensures.taken c.args.shared.now c.advance.ensures.wheels c.choices.invariant.turning;
       fewer = λ u h. c.choices.invariant.fewer u (fewer_under k s r b tags old new c.advance.ensures.taken u h);
       kept = λ u h. elim (passed_or_to_come k s r b tags old new c.advance.ensures.taken c.in-Some.numbers.now c.in-Some.ensures.value u (c.choices.invariant.kept u h)) [
-        | inl e ↦ absurd (none u e)
+        | inl e ↦ absurd (none u e.covering)
         | inr n ↦ n
       ];
       less = let l = c.choices.invariant.less in let f = c.advance.ensures.falls c.in-Some.numbers.now c.in-Some.ensures.value in omega (arith, l, f);
@@ -56,7 +79,7 @@ returns-in-Unifier-clause-drawn c =
     let given = subst (IsDrawnBy k.declarations k.given k.first k.size k.table s (systems_of r b) (choice_of r tags c.in-Some.numbers.now)) c.in-Unifier.is drawn in (
       given.0,
       λ u h. elim (passed_or_to_come k s r b tags c.choices.turning.wheels c.advance-in-Unifier.new.self c.advance-in-Unifier.ensures.taken c.in-Some.numbers.now c.in-Some.ensures.value u (c.choices.invariant.kept u h)) [
-        | inl e ↦ inl (given.1 u e)
+        | inl e ↦ inl (given.1 u e.covering)
         | inr n ↦ inr n
       ],
     )

@@ -4,7 +4,7 @@ use Rattle.std.proofs.Math.Nat.{le_trans}
 use Rattle.fvn_combine_nodes.specs.States.{class_of}
 use Rattle.fvn_combine_admissible.specs.Listed.{tag_in}
 use Rattle.fvn_combine_candidates.specs.Tags.{AreTags}
-use Rattle.fvn_combine_candidates.specs.Turning.{AreWheels}
+use Rattle.fvn_combine_candidates.specs.Turning.{AreWheels, HaveBounds}
 use Rattle.fvn_combine.specs.Tasks.{Combining}
 use Rattle.fvn_combine.proofs.Less.{few_numbers}
 use Rattle.fvn_combine.proofs.Turned.{turned}
@@ -18,7 +18,8 @@ returns-clause-turned c =
     let asked = subst (λ (k : Combining). AreWheels k.declarations k.table (class_of c.args.state.now) (tag_in c.from_vec.result) o.reading.sums o.bases wheels.wheels) c.task.view_is
     (subst (λ l. AreWheels c.task.inside.sig.now c.task.inside.table (class_of c.args.state.now) (tag_in l) o.reading.sums o.bases wheels.wheels) (c.as_slice-3.ensures.value ∙ sym c.from_vec.ensures)
     (subst (λ b. AreWheels c.task.inside.sig.now c.task.inside.table (class_of c.args.state.now) (tag_in c.as_slice-3.result.now) o.reading.sums b wheels.wheels) c.as_slice-2.ensures c.in_ok-wheels.ensures.asked)) in
-    turned c.args.task.now c.recall.ensures c.listed_choices_are_possible.ensures c.args.state.now o c.requires.opened c.from_vec.result c.in-Some.options.now are wheels asked c.in_ok-wheels.ensures.all_pending
+    let bounds = subst (λ (k : Combining). HaveBounds k.declarations k.table (class_of c.args.state.now) k.sorted o.reading.sums wheels.wheels) c.task.view_is c.in_ok-wheels.ensures.bounds in
+    turned c.args.task.now c.recall.ensures c.listed_choices_are_possible.ensures c.sorted_choices_are_within.ensures c.args.state.now o c.requires.opened c.from_vec.result c.in-Some.options.now are wheels asked bounds c.in_ok-wheels.ensures.all_pending
     c.advance.new.self c.advance.ensures.counts c.in-Some.ensures.value c.advance.ensures.taken (c.advance.ensures.falls c.in-Some.options.now c.in-Some.ensures.value)
     (le_trans c.in_ok-wheels.ensures.bounded
     (few_numbers c.args.task.now c.sum_operators_are_few.ensures c.args.state.now o.reading c.requires.opened.reading o.bases c.requires.opened.bases (tag_in c.from_vec.result) wheels.wheels asked))

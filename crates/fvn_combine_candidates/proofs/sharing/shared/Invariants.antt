@@ -5,4 +5,4 @@ use Rattle.fvn_combine_candidates.specs.inner.Walking.{AreSharedBelow}
 use Rattle.fvn_combine_candidates.proofs.sharing.shared.Given as goal
 
 abbrev pub invariant-loop-k : goal.invariant-loop-k
-invariant-loop-k l = AreSharedBelow l.sig l.table (class_of l.state) (length l.reading.sums) l.k l.list.items
+invariant-loop-k l = AreSharedBelow l.sig l.table (class_of l.state) l.sorted (length l.reading.sums) l.k l.list.items

@@ -7,14 +7,14 @@ use Rattle.fvn_combine_candidates.proofs.Entries.{within_other, read_of_other}
 use Rattle.fvn_combine_candidates.proofs.Walked.{not_user, one_user}
 use Rattle.fvn_combine_candidates.proofs.sharing.users_of.Goals as goal
 
-pub loop-i-preserved-then-not-uses : goal.loop-i-preserved-then-not-uses
-loop-i-preserved-then-not-uses c =
+pub loop-i-preserved-then-not-may_be_sum : goal.loop-i-preserved-then-not-may_be_sum
+loop-i-preserved-then-not-may_be_sum c =
     let sums = c.args.reading.now.sums in
     let i = c.loop-i.i in
     let e = c.index-sums-i.result in
-    not_user c.args.sig.now c.args.table.now (class_of c.args.state.now) sums c.requires.reading.operators.distinct c.args.k i c.loop-i.users.items e
+    not_user c.args.sig.now c.args.table.now (class_of c.args.state.now) c.args.sorted sums c.requires.reading.operators.distinct c.args.k i c.loop-i.users.items e
     (within_other c.as_slice-sums.result.now sums i c.as_slice-sums.ensures c.loop-i-test.true) (read_of_other c.as_slice-sums.result.now sums i e c.as_slice-sums.ensures c.index-sums-i.is)
-    (λ u. false≢true (sym c.if-not-uses.true ∙ c.uses.ensures.1 u)) c.loop-i.invariant
+    (λ u. false≢true (sym c.if-not-may_be_sum.true ∙ c.may_be_sum.ensures.1 u)) c.loop-i.invariant
 
 pub loop-i-preserved : goal.loop-i-preserved
 loop-i-preserved c =
@@ -24,7 +24,7 @@ loop-i-preserved c =
     let sums = c.args.reading.now.sums in
     let i = c.loop-i.i in
     let e = c.index-sums-i.result in
-    subst (AreUsersBelow d t class sums c.args.k (i + 1)) (sym c.in_ok-push.ensures.items)
-    (one_user d t class sums c.requires.reading.operators.distinct c.args.k i c.loop-i.users.items e
+    subst (AreUsersBelow d t class c.args.sorted sums c.args.k (i + 1)) (sym c.in_ok-push.ensures.items)
+    (one_user d t class c.args.sorted sums c.requires.reading.operators.distinct c.args.k i c.loop-i.users.items e
     (within_other c.as_slice-sums.result.now sums i c.as_slice-sums.ensures c.loop-i-test.true) (read_of_other c.as_slice-sums.result.now sums i e c.as_slice-sums.ensures c.index-sums-i.is)
-    (c.uses.ensures.0 c.if-not-uses.false) c.loop-i.invariant)
+    (c.may_be_sum.ensures.0 c.if-not-may_be_sum.false) c.loop-i.invariant)

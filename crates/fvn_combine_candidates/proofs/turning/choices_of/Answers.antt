@@ -11,14 +11,17 @@ use Rattle.fvn_combine_candidates.proofs.Ordered.{wheel_is}
 use Rattle.fvn_combine_candidates.proofs.Refused.{no_fault}
 use Rattle.fvn_combine_candidates.proofs.turning.choices_of.Goals as goal
 
-pub returns-in-Ok : goal.returns-in-Ok
-returns-in-Ok c =
+pub returns-in-Ok-clause-asked : goal.returns-in-Ok-clause-asked
+returns-in-Ok-clause-asked c =
     let h = c.in-Ok.ensures in
     let k = c.listed.ensures in
     let exact = subst (λ (basis : List Solution). (v : List ℕ) → Contains (vectors_of basis) v ↔ IsMinimal c.in_ok-theory.theory.system.columns (rows_of c.in_ok-theory.theory.system) v) (sym k.same) h.exact in
     let ordered = subst (λ (basis : List Solution). AllPairs IsBefore (vectors_of basis)) (sym k.same) h.ordered in
     wheel_is c.args.sig.now c.args.table.now (class_of c.args.state.now) (tag_in c.args.tags.now) c.args.sums.now c.args.basis.now c.requires.basis c.in_ok-theory.theory c.in_ok-theory.ensures.system c.in_ok-theory.ensures.asked
     (wheel_of c.listed.result) exact ordered (k.constants ∙ h.constants) (k.may_be_zero ∙ h.may_be_zero) k.full
+
+pub returns-in-Ok-clause-bounds : goal.returns-in-Ok-clause-bounds
+returns-in-Ok-clause-bounds c = c.listed.ensures.bounds ∙ c.in-Ok.ensures.bounds
 
 pub unreachable-requires : goal.unreachable-requires
 unreachable-requires c =

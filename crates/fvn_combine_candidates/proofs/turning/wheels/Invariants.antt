@@ -7,4 +7,4 @@ use Rattle.fvn_combine_candidates.specs.inner.Walking.{AreWheelsBelow}
 use Rattle.fvn_combine_candidates.proofs.turning.wheels.Given as goal
 
 abbrev pub invariant-loop-i : goal.invariant-loop-i
-invariant-loop-i l = AreWheelsBelow l.sig l.table (class_of l.state) (tag_in l.tags) l.reading.sums l.bases l.i (map wheel_of l.list.items)
+invariant-loop-i l = AreWheelsBelow l.sig l.table (class_of l.state) (tag_in l.tags) l.sorted l.reading.sums l.bases l.i (map wheel_of l.list.items)

@@ -1,6 +1,6 @@
--- It differs from all that it is among.
+-- It differs from all that it is among, or from all but one.
 use Rattle.std.proofs.Common.{sym, ◌∙◌, arith}
-use Rattle.fvn_combine_inferring.proofs.Told.{bag_out}
+use Rattle.fvn_combine_inferring.proofs.Told.{bag_out, bag_one}
 use Rattle.fvn_combine_inferring.proofs.bags.matched.Goals as goal
 
 pub returns-in-None : goal.returns-in-None
@@ -15,3 +15,14 @@ is_open-requires c =
 
 pub returns-then-is_open : goal.returns-then-is_open
 returns-then-is_open c = record { left = c.requires.within; right = c.in-Some.ensures; undecided = sym c.is_open.ensures ∙ c.if-is_open.true }
+
+pub is_only-requires-clause-list : goal.is_only-requires-clause-list
+is_only-requires-clause-list c = c.requires.list
+
+pub met-requires : goal.met-requires
+met-requires c = record {
+  closed = c.requires.closed;
+  left = c.requires.within;
+  right = c.in-Some.ensures;
+  equal = bag_one c.args.sig.now c.args.table.now c.args.state.now c.args.f c.args.k c.in-Some.l c.args.list.now c.requires.one c.requires.single c.requires.among (c.is_only.ensures c.if-is_only.true);
+}

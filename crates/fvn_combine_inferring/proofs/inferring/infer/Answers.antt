@@ -1,8 +1,6 @@
 -- What is told, or what was asked before; the operators of a reading are associative.
 use Rattle.std.proofs.Common.{sym, subst, inl, inr, Contains}
 use Rattle.std.proofs.lemmas.List.Elements.{Contains-get_or}
-use Rattle.fvn_combine_nodes.specs.States.{class_of}
-use Rattle.fvn_combine_leaves.specs.Readings.{AreHeads}
 use Rattle.fvn_combine_leaves.proofs.ReadOfState.{sum_operator}
 use Rattle.fvn_combine_inferring.specs.Inferred.{IsInferred}
 use Rattle.fvn_combine_inferring.proofs.inferring.infer.Goals as goal
@@ -12,9 +10,6 @@ infer_of-requires-clause-associative c =
     (sum_operator c.args.sig.now c.args.table.now c.recall_well_made.ensures c.args.state.now c.requires.closed c.args.reading.now c.requires.reading c.sums-item.result
     (subst (λ l. Contains l c.sums-item.result) c.as_slice-sums-items.ensures
     (subst (Contains c.as_slice-sums-items.result.now) (sym c.sums-item.is) (Contains-get_or c.as_slice-sums-items.result.now c.loop-sums.sums-index _ c.loop-sums-test.true)))).associative
-
-pub infer_of-requires-clause-heads : goal.infer_of-requires-clause-heads
-infer_of-requires-clause-heads c = subst (AreHeads c.args.sig.now c.args.table.now (class_of c.args.state.now)) (sym c.as_slice-heads.ensures) c.requires.reading.heads
 
 pub loop-sums-preserved : goal.loop-sums-preserved
 loop-sums-preserved c =

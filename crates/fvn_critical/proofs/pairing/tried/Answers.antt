@@ -9,7 +9,7 @@ use Rattle.fvn_rewrite.specs.Usable.{equations_by}
 use Rattle.fvn_critical.specs.inner.Comparing.{AgainstAs}
 use Rattle.fvn_critical.specs.inner.Testing.{overlap_in}
 use Rattle.fvn_critical.proofs.Forms.{outer_right_fits, whole_fits, first_fits, second_fits}
-use Rattle.fvn_critical.proofs.Trying.{first_unfinished, first_too_large, tried_against}
+use Rattle.fvn_critical.proofs.Trying.{joins_at_once, first_unfinished, first_too_large, tried_against}
 use Rattle.fvn_critical.proofs.pairing.tried.Goals as goal
 
 pub apply-requires : goal.apply-requires
@@ -67,6 +67,23 @@ against-requires g c =
     let is = c.requires.overlap in
     let two : c.in_ok-second.second ≡ inst r.signature (value c.args.s.now) c.args.whole.now = c.in_ok-second.ensures.exact ∙ ap (λ (d : Declarations). inst d (value c.args.s.now) c.args.whole.now) c.signature-sig.ensures in
     subst (Fits r.signature) (sym two) (second_fits r good completed usable rules may c.args.meeting.now.next o is c.args.s.now c.requires.unifier c.args.whole.now c.requires.whole)
+
+pub returns-then-same : goal.returns-then-same
+returns-then-same g c =
+    let r = c.args.tester.now.rewriter in
+    let may = g.A.AxiomSolver.drawn c.args.tester.now.solver.now in
+    let good = c.recall.ensures.good in
+    let completed = c.recall.ensures.completed in
+    let usable = c.recall.ensures.usable in
+    let rules = c.rules_are_lawful.ensures r.signature good completed (equations_by r) (λ e i. (usable.admissible e i).kinded.kinds) in
+    let o = overlap_in c.args.meeting.now in
+    let is = c.requires.overlap in
+    let sequences = c.sequences_are_lawful.ensures r.signature (equations_by r) in
+    let steps = c.overlaps_are_steps.ensures in
+    let one : c.in_ok-first.first ≡ inst r.signature (value c.args.s.now) o.outer.right = c.in_ok-first.ensures.exact ∙ ap (λ (d : Declarations). inst d (value c.args.s.now) o.outer.right) c.signature-sig.ensures in
+    let two : c.in_ok-second.second ≡ inst r.signature (value c.args.s.now) c.args.whole.now = c.in_ok-second.ensures.exact ∙ ap (λ (d : Declarations). inst d (value c.args.s.now) c.args.whole.now) c.signature-sig.ensures in
+    joins_at_once r good completed usable rules sequences steps may (g.A.AxiomSolver.most_unifiers c.args.tester.now.solver.now) c.args.meeting.now.next o is c.args.s.now c.requires.unifier c.args.whole.now c.requires.whole
+    (sym one ∙ c.same-same.ensures.exact.0 c.if-same.true ∙ two)
 
 pub returns-in-Form : goal.returns-in-Form
 returns-in-Form g c =

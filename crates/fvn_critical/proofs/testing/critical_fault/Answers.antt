@@ -2,9 +2,10 @@
 use Rattle.std.proofs.Common.{Some, subst}
 use Rattle.fvn_theory.specs.Equations.{equations_of}
 use Rattle.fvn_rewrite_laws.specs.Losses.{AreSortDecreasing, IsFirstLoss}
+use Rattle.fvn_rewrite.specs.Usable.{equations_by}
 use Rattle.fvn_critical.specs.declared.fault.CriticalFault.TheVariants.{Sorts}
 use Rattle.fvn_critical.specs.Faults.{rewriting_of, IsAnswer}
-use Rattle.fvn_critical.specs.inner.Testing.{TestedAs, Each, IsJoinedBy}
+use Rattle.fvn_critical.specs.inner.Testing.{TestedAs, AreJoinedBySome}
 use Rattle.fvn_critical.proofs.Answering.{tested_answer, tells_none, tells_this, only_limited}
 use Rattle.fvn_critical.proofs.testing.critical_fault.Goals as goal
 
@@ -28,10 +29,10 @@ returns-in_ok-fault-in-None g c =
     let answer = c.in_ok-fault-in-None.fault in
     let decreasing : AreSortDecreasing c.args.sig.now (equations_of c.args.rules.now.equations) =
     subst (λ l. AreSortDecreasing c.args.sig.now (equations_of l)) c.equations.ensures (rw c.in-None.is at c.in_ok-loss.ensures) in
-    let tested : TestedAs r may unifiers (Each (IsJoinedBy r) r.rules.rules) answer =
-    rw (c.new-tester.ensures.rewrites, c.new-tester.ensures.solver) at c.in_ok-fault-in-None.ensures in
+    let tested : TestedAs r may unifiers (AreJoinedBySome r) answer = c.in_ok-fault-in-None.ensures in
     let told : IsAnswer r may unifiers answer =
-    tested_answer r may unifiers c.recall_good.ensures c.recall_completed.ensures c.requires.rules c.overlaps_of_rules_decide_confluence.ensures decreasing answer tested in record {
+    tested_answer r may unifiers c.recall_good.ensures c.recall_completed.ensures c.requires.rules
+    (c.rules_are_lawful.ensures r.signature c.recall_good.ensures c.recall_completed.ensures (equations_by r) (λ e i. (c.requires.rules.admissible e i).kinded.kinds)) c.overlaps_of_rules_decide_confluence.ensures decreasing answer tested in record {
       told = told;
       sorts = tells_none r may unifiers decreasing answer;
       limited = only_limited r may unifiers c.divergence_excludes_confluence.ensures answer told;

@@ -13,7 +13,7 @@ loop-inner-init g c = each_none (JoinWith c.args.tester.now.rewriter c.args.new.
 pub fault_with-requires-clause-inner : goal.fault_with-requires-clause-inner
 fault_with-requires-clause-inner g c lives order =
     let item : Rule = c.inner-item.result in
-    subst (λ l. Contains l item) c.requires.inner (subst (Contains c.args.rules.now) (sym c.inner-item.is) (Contains-get_or c.args.rules.now c.loop-inner.inner-index item c.loop-inner-test.true))
+    c.requires.inner item (subst (Contains c.args.rules.now) (sym c.inner-item.is) (Contains-get_or c.args.rules.now c.loop-inner.inner-index item c.loop-inner-test.true))
 
 pub loop-inner-preserved : goal.loop-inner-preserved
 loop-inner-preserved g c =

@@ -1,14 +1,11 @@
 -- The rule with new variables.
-use Rattle.std.proofs.Common.{refl, sym, ◌∙◌, subst}
-use Rattle.std.specs.Prelude.{Contains}
+use Rattle.std.proofs.Common.{sym, ◌∙◌, subst}
 use Rattle.fvn_terms.specs.declared.declarations.Declarations.{Declarations}
 use Rattle.fvn_flat.specs.Fits.{Fits}
-use Rattle.fvn_places.specs.Paths.{paths}
-use Rattle.fvn_rewrite_rules.specs.declared.rule.Rule.{Rule}
 use Rattle.fvn_rewrite.specs.Usable.{equations_by}
 use Rattle.fvn_critical_pairs.specs.Overlaps.{IsRenewed}
 use Rattle.fvn_critical_pairs.proofs.GivenRules.{left_fits, right_fits}
-use Rattle.fvn_critical.specs.inner.Testing.{Each, JoinAt, IsJoinedBy}
+use Rattle.fvn_critical.specs.inner.Testing.{Each, IsJoinedAt, IsJoinedAlong}
 use Rattle.fvn_critical.proofs.Forms.{used_by}
 use Rattle.fvn_critical.proofs.Covering.{weaker}
 use Rattle.fvn_critical.proofs.testing.fault_of.Goals as goal
@@ -36,10 +33,12 @@ pub returns : goal.returns
 returns g c =
     let r = c.args.tester.now.rewriter in
     let new = c.in_ok-new.new in
-    weaker r (g.A.AxiomSolver.drawn c.args.tester.now.solver.now) (g.A.AxiomSolver.most_unifiers c.args.tester.now.solver.now) (Each (JoinAt r new.rule) c.as_slice.result.now) (IsJoinedBy r c.args.rule.now)
+    let chosen = c.args.tester.now.chosen.now in
+    let later = c.args.later.now in
+    weaker r (g.A.AxiomSolver.drawn c.args.tester.now.solver.now) (g.A.AxiomSolver.most_unifiers c.args.tester.now.solver.now) (Each (IsJoinedAt r chosen later new.rule) c.as_slice.result.now) (IsJoinedAlong r chosen later c.args.rule.now)
     (λ h. record {
       next = new.next;
       new = new.rule;
       renewed = subst (λ (d : Declarations). IsRenewed d new.next c.args.rule.now new.rule) c.signature.ensures c.in_ok-new.ensures;
-      joins = λ o same k. subst (Each (JoinAt r new.rule)) (c.as_slice.ensures.value ∙ c.in_ok-list.ensures) h o.path (subst (λ (z : Rule). Contains (paths z.left) o.path) same k.listed) o same refl k;
+      along = subst (Each (IsJoinedAt r chosen later new.rule)) (c.as_slice.ensures.value ∙ c.in_ok-list.ensures) h;
     }) c.in_ok-fault.fault c.in_ok-fault.ensures

@@ -1,22 +1,20 @@
 -- No form at the end of the path, one without a head, or one with needed rules.
-use Rattle.std.proofs.Common.{sym, ap, ◌∙◌}
+use Rattle.std.proofs.Common.{refl, sym, ◌∙◌}
 use Rattle.fvn_forms.specs.Flat.{FlatTerm}
-use Rattle.fvn_rewrite_rules.specs.Given.{RuleLists, headed}
 use Rattle.fvn_narrow.proofs.Along.{read_at, nowhere, headless, along}
 use Rattle.fvn_narrow.proofs.expanding.at_path.Goals as goal
 
-pub by_rules-requires : goal.by_rules-requires
-by_rules-requires g c =
+pub at_form-requires : goal.at_form-requires
+at_form-requires g c =
     let v = c.args.start.now.variant in record {
       ready = c.requires.ready;
-      part = record {
+      form = record {
         term = c.index-as_slice-member.result;
         is = read_at v.terms c.as_slice.result.now c.args.member c.index-as_slice-member.result c.as_slice.ensures c.requires.member c.index-as_slice-member.is;
         leads = rw c.in-Some.is at c.form_at.ensures;
-        operator = c.in-Some-head.f;
         heads = sym c.head.ensures ∙ c.in-Some-head.is;
-        needed = c.headed.ensures ∙ ap (λ (l : RuleLists). headed l c.in-Some-head.f) c.rules.ensures;
       };
+      whole = refl;
     }
 
 pub returns-in_default : goal.returns-in_default
@@ -44,5 +42,5 @@ returns g c =
     let term : FlatTerm = c.index-as_slice-member.result in
     along n.rewriter.now (g.S.Solves.most_unifiers n.solver.now) (g.S.Solves.drawn n.solver.now) v c.args.member term
     (read_at v.terms c.as_slice.result.now c.args.member term c.as_slice.ensures c.requires.member c.index-as_slice-member.is) c.args.path.now
-    c.in-Some.at.now (rw c.in-Some.is at c.form_at.ensures) c.in-Some-head.f (sym c.head.ensures ∙ c.in-Some-head.is) c.headed.result.now (c.headed.ensures ∙ ap (λ (l : RuleLists). headed l c.in-Some-head.f) c.rules.ensures)
+    c.in-Some.at.now (rw c.in-Some.is at c.form_at.ensures) c.in-Some-head.f (sym c.head.ensures ∙ c.in-Some-head.is)
     c.in_ok-e.e c.in_ok-e.ensures

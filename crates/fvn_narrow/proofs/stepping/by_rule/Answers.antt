@@ -18,7 +18,7 @@ pub clash-clashing-requires : goal.clash-clashing-requires
 clash-clashing-requires g c =
     let r = c.args.tools.now.rewriter.now in
     let v = c.args.start.now.variant in
-    let turn = turn_of c.args.part.now.member c.args.part.now.path.now c.args.rule.now in
+    let turn = turn_of c.args.part.now.member c.args.part.now.path.now c.args.part.now.beside c.args.rule.now in
     let usable = c.recall.ensures.usable in
     let rules = c.rules_are_lawful.ensures r.signature c.recall.ensures.good c.recall.ensures.completed (equations_by r) (λ e i. (usable.admissible e i).kinded.kinds) in
     let fit = fit_here r c.recall.ensures.good usable rules v c.args.start.now.next c.requires.ready c.args.part.now.at.now turn c.requires.turn in record {
@@ -30,7 +30,7 @@ pub solve-requires : goal.solve-requires
 solve-requires g c =
     let r = c.args.tools.now.rewriter.now in
     let v = c.args.start.now.variant in
-    let turn = turn_of c.args.part.now.member c.args.part.now.path.now c.args.rule.now in
+    let turn = turn_of c.args.part.now.member c.args.part.now.path.now c.args.part.now.beside c.args.rule.now in
     let usable = c.recall.ensures.usable in
     let rules = c.rules_are_lawful.ensures r.signature c.recall.ensures.good c.recall.ensures.completed (equations_by r) (λ e i. (usable.admissible e i).kinded.kinds) in
     subst (λ (d : Declarations). IsGiven d c.in_ok-given.given c.args.start.now.next) (sym c.args.tools.now.one_signature)
@@ -50,7 +50,7 @@ pub returns-then-clashing : goal.returns-then-clashing
 returns-then-clashing g c =
     let r = c.args.tools.now.rewriter.now in
     let v = c.args.start.now.variant in
-    let turn = turn_of c.args.part.now.member c.args.part.now.path.now c.args.rule.now in
+    let turn = turn_of c.args.part.now.member c.args.part.now.path.now c.args.part.now.beside c.args.rule.now in
     let usable = c.recall.ensures.usable in
     let rules = c.rules_are_lawful.ensures r.signature c.recall.ensures.good c.recall.ensures.completed (equations_by r) (λ e i. (usable.admissible e i).kinded.kinds) in
     let never = subst (λ (d : Declarations). NeverMeet d c.args.part.now.at.now c.args.rule.now.left) c.signature.ensures (c.clash-clashing.ensures c.if-clashing.true) in
@@ -64,7 +64,7 @@ returns g c =
     let v = c.args.start.now.variant in
     let next = c.args.start.now.next in
     let at = c.args.part.now.at.now in
-    let turn = turn_of c.args.part.now.member c.args.part.now.path.now c.args.rule.now in
+    let turn = turn_of c.args.part.now.member c.args.part.now.path.now c.args.part.now.beside c.args.rule.now in
     let given = c.in_ok-given.given in
     let solved = c.in_ok-solved.solved in
     let unifiers = g.S.Solves.most_unifiers n.solver.now in

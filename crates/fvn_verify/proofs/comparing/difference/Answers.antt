@@ -21,3 +21,4 @@ returns-else-same c =
     are_different r.signature (equations_by r) (value c.args.bindings.now.pairs) r.bounds
     c.equality_is_that_of_flat_forms.ensures c.kinded_theories_are_lawful.ensures c.recall.ensures.good.fits c.recall.ensures.usable.admissible c.requires.keeps c.args.pair.now c.requires.kinded
     c.args.left c.args.right c.requires.left c.requires.right (λ e. let same : false ≡ true = c.if-same.ensures.exact.1 e in cc)
+    c.requires.instances

@@ -1,6 +1,6 @@
 -- Sides of one kind are well-kinded.
 use Rattle.std.proofs.Common.{sym, subst}
-use Rattle.std.specs.Prelude.{All, ◌<◌}
+use Rattle.std.specs.Prelude.{All}
 use Rattle.std.proofs.lemmas.List.Elements.{All-weaker}
 use Rattle.fvn_terms.specs.Signature.{KeepsKinds}
 use Rattle.fvn_terms.specs.Substitution.{value}

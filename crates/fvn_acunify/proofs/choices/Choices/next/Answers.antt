@@ -9,7 +9,7 @@ use Rattle.fvn_acunify.proofs.choices.Choices.next.Goals as goal
 pub returns-in-None-clause-greatest : goal.returns-in-None-clause-greatest
 returns-in-None-clause-greatest c =
     let inv = c.loop-self.invariant in (
-      (omega (arith, inv.lower), IsListed-same inv.full (c.as_slice.ensures.value ∙ inv.constants) (c.as_slice-in-loop-self.ensures.value ∙ inv.may_be_zero) (c.as_slice-in-loop-self-2.ensures ∙ inv.basis) _ c.in-None.ensures.listed),
+      (omega (arith, inv.lower), IsListed-same inv.full (c.as_slice.ensures.value ∙ inv.constants) (c.as_slice-in-loop-self.ensures.value ∙ inv.may_be_zero) inv.bounds (c.as_slice-in-loop-self-2.ensures ∙ inv.basis) _ c.in-None.ensures.listed),
       λ a pending. omega (arith, inv.left a pending),
     )
 
@@ -25,6 +25,7 @@ loop-self-preserved c =
     record {
       constants = inv.constants;
       may_be_zero = inv.may_be_zero;
+      bounds = inv.bounds;
       basis = inv.basis;
       full = inv.full;
       bounded = inv.bounded;
@@ -32,8 +33,8 @@ loop-self-preserved c =
       within = omega (arith, inv.within);
       lower = omega (arith, inv.lower);
       left = λ a pending. rw (one_shl place 32 small)
-          (jump_skips_none _ _ _ _ _ place c.in-Some.ensures.dead a (omega (arith, inv.left a pending))
-          (IsListed-same (sym inv.full) (sym (c.as_slice.ensures.value ∙ inv.constants)) (sym (c.as_slice-in-loop-self.ensures.value ∙ inv.may_be_zero)) (sym (c.as_slice-in-loop-self-2.ensures ∙ inv.basis)) a pending.1));
+          (jump_skips_none _ _ _ _ _ _ place c.in-Some.ensures.dead a (omega (arith, inv.left a pending))
+          (IsListed-same (sym inv.full) (sym (c.as_slice.ensures.value ∙ inv.constants)) (sym (c.as_slice-in-loop-self.ensures.value ∙ inv.may_be_zero)) (sym inv.bounds) (sym (c.as_slice-in-loop-self-2.ensures ∙ inv.basis)) a pending.1));
     }
 
 pub returns-clause-exhausted : goal.returns-clause-exhausted

@@ -8,6 +8,7 @@ abbrev pub invariant-loop-self : goal.invariant-loop-self
 invariant-loop-self l = record {
   constants : l.self-inside.constants.items ≡ l.fn.self.constants;
   may_be_zero : l.self-inside.may_be_zero.items ≡ l.fn.self.may_be_zero;
+  bounds : l.self-inside.bounds ≡ l.fn.self.bounds;
   basis : l.self-inside.basis ≡ l.fn.self.basis;
   full : l.self-inside.full ≡ l.fn.self.full;
   bounded : IsBounded (length l.self-inside.may_be_zero.items) l.self-inside.constants.items l.self-inside.basis;

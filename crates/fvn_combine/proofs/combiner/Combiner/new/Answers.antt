@@ -1,19 +1,6 @@
--- Every unifier on kinds makes a partition, and the tree has all partitions.
-use Rattle.std.proofs.Common.{sym, subst, inl}
-use Rattle.fvn_flat.specs.Solving.{problem_of}
-use Rattle.fvn_flat.specs.SolvedLists.{IsKindUnifier}
-use Rattle.fvn_flat.specs.declared.solver.Pairs.{Pairs}
-use Rattle.fvn_combine_nodes.specs.Classes.{IsNodePartition}
-use Rattle.fvn_combine_nodes.specs.Trees.{IsToCome}
-use Rattle.fvn_combine_nodes.specs.Unifiers.{kernel}
-use Rattle.fvn_combine.specs.Tasks.{Combining}
+-- Where sorts are not heeded nothing is asked of them.
+use Rattle.std.proofs.lemmas.Bool.{false≢true}
 use Rattle.fvn_combine.proofs.combiner.Combiner.new.Goals as goal
 
 pub returns-clause-all : goal.returns-clause-all
-returns-clause-all c = λ u unifies.
-    let k = c.in_ok-task.task in
-    let kept = subst (λ d. IsKindUnifier d (problem_of k.given) u) (sym c.in_ok-task.ensures.declarations) (subst (λ (p : Pairs). IsKindUnifier c.args.sig.now (problem_of p) u) (sym c.in_ok-task.ensures.given) unifies) in
-    let is = c.recall.ensures in
-    let partition = (c.unifiers_partition.ensures k.declarations is.good.fits (problem_of k.given) is.is_given.kinds k.table is.well_made is.table_of u kept).partition in
-    let class = kernel k.declarations u k.table.nodes in
-    (kept, inl (subst (λ (k : Combining). IsNodePartition k.declarations k.table class → IsToCome c.in_ok-tree.tree class) c.task.view_is (c.in_ok-tree.ensures.all class) partition))
+returns-clause-all c = λ u unifies. c.in_ok-combiner.ensures.all u unifies (λ e. absurd (false≢true e))

@@ -10,4 +10,4 @@ use Rattle.fvn_tests_combine.proofs.tests.opened.push_tagged.Goals as goal
 pub tags_of-requires-clause-within : goal.tags_of-requires-clause-within
 tags_of-requires-clause-within c =
     subst (λ (ns : List Node). All (λ (s : SharedClass). s.class < length ns) c.args.list.now) (sym c.nodes-n.ensures)
-    (All-weaker (IsSharedClass c.args.sig.now c.args.table.now (class_of c.args.state.now)) (λ (s : SharedClass). s.class < length c.args.table.now.nodes) (λ s is. is.within) c.args.list.now c.requires.shared.each)
+    (All-weaker (IsSharedClass c.args.sig.now c.args.table.now (class_of c.args.state.now) true) (λ (s : SharedClass). s.class < length c.args.table.now.nodes) (λ s is. is.within) c.args.list.now c.requires.shared.each)

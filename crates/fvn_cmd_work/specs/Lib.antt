@@ -1,0 +1,3 @@
+-- The words of the reply to `work`.
+pub mod Made
+pub mod Replies

@@ -1,0 +1,8 @@
+-- No node so far is so.
+use Rattle.std.proofs.Common.{ℕ, ◌<◌}
+use Rattle.fvn_combine_nodes.specs.States.{class_of}
+use Rattle.fvn_combine_bounds.specs.inner.Nodes.{IsNarrowNode}
+use Rattle.fvn_combine_bounds.proofs.bounding.is_narrow.Given as goal
+
+abbrev pub invariant-loop-i : goal.invariant-loop-i
+invariant-loop-i l = (j : ℕ) → j < l.i → IsNarrowNode l.sig l.table (class_of l.state) l.f l.k j → ⊥

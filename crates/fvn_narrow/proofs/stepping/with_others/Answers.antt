@@ -1,0 +1,1 @@
+-- A copy of the form, or the sum with the others.

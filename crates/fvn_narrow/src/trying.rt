@@ -1,0 +1,107 @@
+//! Steps at one part by several rules.
+ghost use Rattle.std.specs.Prelude.{IsTrue, All, IfOk};
+ghost use Rattle.fvn_lifting.specs.Pairs.{IsMetInPairs};
+ghost use Rattle.fvn_narrow.specs.inner.Joining.{AreJoined};
+ghost use Rattle.fvn_narrow.specs.inner.Turns.{turn_of, try_of, IsReady, IsTurnAt, IsTryOf};
+ghost use Rattle.fvn_narrow.specs.inner.Turns.{ForEach, TryLiftsUnless, AreFound};
+
+use crate::pairing::is_met_in_pairs;
+use crate::posing::is_whole;
+use crate::stepping::{Part, by_rule};
+use crate::tools::{Solves, Tools};
+use fvn_base::Seq;
+use fvn_cover::Variant;
+use fvn_exploring::{ExpandEnd, Expansion};
+use fvn_narrow_children::{Start, no_children};
+use fvn_rewrite_rules::Rule;
+use fvn_terms::NoMemory;
+use std::alloc::Global;
+
+// The children so far with those of one more expansion, and its end.
+pub(crate) fn with_more(
+    children: Vec<Variant>,
+    next: Expansion,
+) -> Result<(Vec<Variant>, ExpandEnd), NoMemory>
+    ensures { IfOk result (λ r. AreJoined children.items next r.0.items r.1) }
+{
+    let (more, end) = next.into_parts();
+    let mut rest = more.into_vec();
+    let mut all = children;
+    all.append(&mut rest)?;
+    Ok((all, end))
+}
+
+// Whether the rule is met in pairs.
+pub(crate) fn is_met<S: Solves>(tools: &Tools<'_, '_, S>, rule: &Rule) -> bool
+    ensures { IsTrue result
+        → IsMetInPairs tools.now.rewriter.now.signature tools.now.rewriter.now.rules rule.now }
+{
+    tools.rewriter.recall();
+    let Some(f) = rule.left.head() else {
+        return false;
+    };
+    let met = is_met_in_pairs(tools.rewriter.signature(), tools.rewriter.rules(), f, rule);
+    met
+}
+
+// The children at a part by a rule; none where rules that are met in pairs are passed over, and this is one.
+fn by_rule_unless<S: Solves>(
+    tools: &Tools<'_, '_, S>,
+    alloc: Global,
+    start: &Start,
+    part: &Part<'_>,
+    rule: &Rule,
+    passes: bool,
+) -> Result<Expansion, NoMemory>
+    requires ready { IsReady tools.now.rewriter.now start.now.variant start.now.next }
+    requires turn { IsTurnAt tools.now.rewriter.now start.now.variant part.now.at.now
+        (turn_of part.now.member part.now.path.now part.now.beside rule.now) }
+    ensures { IfOk result (AreFound tools.now.rewriter.now (S.most_unifiers tools.now.solver.now)
+        (S.drawn tools.now.solver.now) start.now.variant
+        (TryLiftsUnless tools.now.rewriter.now (S.most_unifiers tools.now.solver.now)
+        start.now.variant passes (try_of part.now.at.now rule.now))) }
+{
+    if passes {
+        let met = is_met(tools, rule);
+        if met {
+            return Ok(no_children(alloc));
+        }
+    }
+    let e = by_rule(tools, alloc, start, part, rule)?;
+    Ok(e)
+}
+
+// The children at a part by these rules, up to the first that stops.
+pub(crate) fn by_rules<S: Solves>(
+    tools: &Tools<'_, '_, S>,
+    alloc: Global,
+    start: &Start,
+    part: &Part<'_>,
+    rules: &[Rule],
+    passes: bool,
+) -> Result<Expansion, NoMemory>
+    requires ready { IsReady tools.now.rewriter.now start.now.variant start.now.next }
+    requires turns { All (λ rule. IsTurnAt tools.now.rewriter.now start.now.variant
+        part.now.at.now (turn_of part.now.member part.now.path.now part.now.beside rule)) rules.now }
+    ensures { IfOk result (AreFound tools.now.rewriter.now (S.most_unifiers tools.now.solver.now)
+        (S.drawn tools.now.solver.now) start.now.variant
+        (ForEach (TryLiftsUnless tools.now.rewriter.now (S.most_unifiers tools.now.solver.now)
+        start.now.variant passes) (IsTryOf part.now.at.now rules.now))) }
+{
+    let mut children = Vec::new(alloc);
+    for rule in rules {
+        let next = by_rule_unless(tools, alloc, start, part, rule, passes)?;
+        let (all, end) = with_more(children, next)?;
+        children = all;
+        if !is_whole(&end) {
+            return Ok(Expansion {
+                children: Seq::from_vec(children),
+                end,
+            });
+        }
+    }
+    Ok(Expansion {
+        children: Seq::from_vec(children),
+        end: ExpandEnd::Whole,
+    })
+}
