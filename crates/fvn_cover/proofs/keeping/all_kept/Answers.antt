@@ -4,7 +4,7 @@ use Rattle.std.proofs.lemmas.Iterator.Adapters.{YieldsList-from_vec}
 use Rattle.std.proofs.lemmas.Iterator.Consumers.{YieldsList-turn}
 use Rattle.fvn_cover.specs.Covering.{IsFlatVariant}
 use Rattle.fvn_cover.proofs.Leftovers.{all_at}
-use Rattle.fvn_tests_matching.proofs.tests.variants.kept_of.Goals as goal
+use Rattle.fvn_cover.proofs.keeping.all_kept.Goals as goal
 
 pub new-requires : goal.new-requires
 new-requires c =
