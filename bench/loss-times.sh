@@ -125,6 +125,12 @@ row("sum of three sorts and ranks, turned round", THREE + RANKS, total(D), total
 RANKS = "op + : D D -> D [assoc comm] . op + : A A -> A [ditto] . op + : A C -> C [ditto] . op + : C C -> A [ditto] . "
 row("sum of parities, its last", THREE + RANKS, total(D), D[-1])
 row("sum of parities, turned round", THREE + RANKS, total(D), total(D[::-1]))
+F = ["T%d" % i for i in range(1, 16)]
+FIFTEEN = "sorts %s . subsorts %s . " % (" ".join(F), " < ".join(F))
+FIFTEEN += " ".join("op + : %s %s -> %s [%s] ." % (s, s, s, "assoc comm" if s == F[-1] else "ditto") for s in F[::-1]) + " "
+T = names(F[-1], size // 4)
+row("sum of 15 sorts, its last", FIFTEEN, total(T), T[-1])
+row("sum of 15 sorts, turned round", FIFTEEN, total(T), total(T[::-1]))
 E = names("B", size // 2)
 UNIT = "op e : -> A . op + : B B -> B [assoc comm id: e] . "
 row("sum with an identity, its last", TWO + UNIT, total(E), E[-1])

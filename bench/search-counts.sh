@@ -19,14 +19,14 @@ mod given;
 use self::given::is_given;
 use fvn_base::Seq;
 use fvn_flat::Pairs;
-use fvn_combine_inferring::{Inferred, differ, heads_of_values, infer};
+use fvn_combine_inferring::{Inferred, Known, differ, infer, known_of};
 use fvn_combine_leaves::{Reading, first_question, question_on_all, question_on_touched, read};
 use fvn_lindio::Solution;
 use fvn_combine_nodes::{State, Table, Tree, table_of};
 use fvn_combine_candidates::{bases, option_counts, shared, tags_of, wheels};
 use fvn_tests_samples::{problem_of, signature_of};
 use fvn_sorts::Signature;
-use fvn_terms::{NoMemory, OpId};
+use fvn_terms::NoMemory;
 use fvn_acunify_product::Tags;
 use std::alloc::Global;
 use std::process::Abort;
@@ -77,10 +77,10 @@ fn question(
     sig: &Signature,
     table: &Table,
     state: &State,
-    heads: &[Option<OpId>],
+    known: &Known,
     pair: (usize, usize),
 ) -> Looked {
-    if differ(sig, table, state, heads, pair.0, pair.1) {
+    if differ(sig, table, state, known, pair.0, pair.1) {
         return Looked::Apart(pair.0, pair.1);
     }
     Looked::Question(pair.0, pair.1)
@@ -92,18 +92,18 @@ fn look_further(
     table: &Table,
     state: &State,
     reading: &Reading,
-    heads: &[Option<OpId>],
+    known: &Known,
 ) -> Result<Looked, NoMemory> {
     if let Some(pair) = first_question(sig, table, state, reading) {
-        return Ok(question(sig, table, state, heads, pair));
+        return Ok(question(sig, table, state, known, pair));
     }
     match bases(alloc, sig, table, state, reading) {
         Err(_) => match question_on_all(sig, table, state, reading) {
-            Some(pair) => Ok(question(sig, table, state, heads, pair)),
+            Some(pair) => Ok(question(sig, table, state, known, pair)),
             None => Ok(Looked::Refused),
         },
         Ok(lists) => match question_on_touched(sig, table, state, reading, lists.as_slice()) {
-            Some(pair) => Ok(question(sig, table, state, heads, pair)),
+            Some(pair) => Ok(question(sig, table, state, known, pair)),
             None => opened(alloc, sig, table, state, reading, lists.as_slice()),
         },
     }
@@ -111,12 +111,12 @@ fn look_further(
 
 fn look(alloc: Global, sig: &Signature, table: &Table, state: &State) -> Result<Looked, NoMemory> {
     let reading = read(alloc, sig, table, state)?;
-    let heads = heads_of_values(alloc, sig, table, state, &reading)?;
-    match infer(alloc, sig, table, state, &reading, heads.as_slice())? {
+    let known = known_of(alloc, sig, table, state, &reading, true)?;
+    match infer(alloc, sig, table, state, &reading, &known)? {
         Inferred::Impossible => Ok(Looked::Passed),
         Inferred::Together(i, j) => Ok(Looked::Together(i, j)),
         Inferred::Question(i, j) => Ok(Looked::Question(i, j)),
-        Inferred::Nothing => look_further(alloc, sig, table, state, &reading, heads.as_slice()),
+        Inferred::Nothing => look_further(alloc, sig, table, state, &reading, &known),
     }
 }
 

@@ -4,8 +4,8 @@
     bench/unify-times.py [--fvn FVN] [--before FVN] [--only WORD] [--repeat N] [--seconds N]
 
 Each problem of bench/unify/problems.py is solved by both, N times in turn, and by another fvn where `--before` names one.
-Printed is a table: the number of answers, the bytes that fvn printed and its peak memory, the median milliseconds of each net
-of start-up (measured on a problem of two constants), and the ratio of fvn to Maude. A `!` marks different numbers of answers.
+Printed is a table: the number of answers, the bytes that fvn printed and its peak memory, the median milliseconds of processor
+time of each net of start-up (measured on a problem of two constants), and the ratio of fvn to Maude. A `!` marks different numbers of answers.
 Where Maude (`FVN_MAUDE`, or `maude`) is missing, fvn alone is timed.
 """
 
@@ -26,7 +26,7 @@ from problems import FAMILIES  # noqa: E402
 
 
 def run(words, text, seconds):
-    """Output, seconds and peak kilobytes of a run, or none where it takes too long."""
+    """Output, seconds of processor time and peak kilobytes of a run, or none where it takes too long."""
     with tempfile.TemporaryFile() as source, tempfile.TemporaryFile() as out:
         source.write(text.encode())
         source.seek(0)
@@ -41,7 +41,7 @@ def run(words, text, seconds):
                 os.wait4(child.pid, 0)
                 return None
             time.sleep(0.0005)
-        taken = time.perf_counter() - begin
+        taken = usage.ru_utime + usage.ru_stime
         out.seek(0)
         return out.read().decode(), taken, usage.ru_maxrss
 
@@ -98,7 +98,7 @@ def main():
         if given.only not in family:
             continue
         module = (HERE / "unify" / f"{name}.maude").read_text()
-        constant = {"evens": "0", "parity": "0"}.get(name, "a")
+        constant = {"evens": "0", "fruit": "apple", "parity": "0", "places": "ready"}.get(name, "a")
         if name not in start:
             same = f"{constant} =? {constant}"
             start[name] = {who: statistics.median(run(module, same, 60)[1] for _ in range(5)) for who, run in runs.items()}

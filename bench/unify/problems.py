@@ -92,6 +92,12 @@ FAMILIES = [
         2: "_*_(_+_(X:S, _*_(Y:S, Z:S)), _+_(Y:S, _*_(X:S, W:S))) =? _*_(Z:S, W:S)",
         3: "_*_(_+_(X:S, Y:S), _*_(_+_(Z:S, W:S), X:S)) =? _*_(_+_(X:S, Z:S), _*_(_+_(Y:S, W:S), Y:S))",
     }),
+    ("choices beside each other", "processes", {1: "_|_(_+_(_|_(P:P, Q:P), R:P), P:P) =? _|_(_+_(_|_(Q:P, R:P), P:P), R:P)"}),
+    ("bags that are not empty", "fruit", {n: f"{over('_;_', variables('N', 3, 'Ne'))} =? {over('_;_', variables('F', n, 'Fruit'))}" for n in (3, 4, 5)}),
+    ("places", "places", {
+        1: f"{over('__', variables('M', 3, 'Marking'))} =? {over('__', variables('P', 3, 'Place') + ['ready'])}",
+        2: f"{over('__', variables('P', 3, 'Place') + ['M:Marking'])} =? {over('__', variables('N', 2, 'Marking') + ['ready', 'ready'])}",
+    }),
     ("element and bag", "soup", {n: against_constants(["E:Elt", "X:Bag"], n) for n in (4, 8, 12, 13, 16)}),
     ("two elements and bag", "soup", {n: against_constants(["E:Elt", "F:Elt", "X:Bag"], n) for n in (4, 8)}),
     ("free pairs", "plain", {n: f"{over('p', variables('X', n) + ['a'])} =? {over('p', variables('Y', n) + ['a'])}" for n in (25, 50, 99)}),

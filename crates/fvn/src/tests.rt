@@ -1,5 +1,6 @@
 //! The program's answers, from the words and the module to the bytes that are written.
 mod check;
+mod faults;
 mod large;
 mod meeting;
 mod terminates;

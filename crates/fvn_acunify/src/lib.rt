@@ -9,5 +9,5 @@ mod theory;
 
 pub use choices::Choices;
 pub use laws::chosen_by_bits;
-pub use solve::solve_one;
+pub use solve::{choices_among, solve_one};
 pub use theory::{ColumnBounds, OneFault, OneTheory};

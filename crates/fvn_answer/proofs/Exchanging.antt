@@ -11,9 +11,9 @@ use Rattle.fvn_syntax.specs.Pieces.{Text}
 use Rattle.fvn_answer.specs.Numberings.{number, IsNumbering}
 use Rattle.fvn_answer.specs.Lines.{Shown, forms_in}
 use Rattle.fvn_answer.specs.inner.Shown.{BeginsAs}
-use Rattle.fvn_answer.specs.inner.Twins.{AreExchanged}
+use Rattle.fvn_answer.specs.inner.Twins.{AreExchanged, AreRaised}
 use Rattle.fvn_answer.proofs.Least.{same-length, exchanged-length, exchanged-numbering}
-use Rattle.fvn_answer.proofs.Numbers.{nobody, stands-numbered, stands-listed, one-place, contains-at, number-at}
+use Rattle.fvn_answer.proofs.Numbers.{nobody, stands-numbered, stands-listed, one-place, contains-at, number-at, number-within}
 
 -- what stands where after an exchange
 record Swapped (xs ys : List Var) (k q : ℕ) : Type 0 where
@@ -66,11 +66,11 @@ module _ (d : Declarations) (texts : List Text) (names : Names) (it : Shown) (or
     pub turned : List Var
     pub begins : BeginsAs d texts names it order k turned
     pub next : (x : Var) → get_or turned k x ≡ get_or order p x
-    pub exchanged : AreExchanged (get_or order p nobody) (get_or order j nobody) turned before
+    pub raised : AreRaised (get_or order p nobody) (get_or order j nobody) turned before
 
-  pub exchange : IsNumbering (forms_in it) order → BeginsAs d texts names it order k before → k ≤ p → p < j → j < length order → ((x : Var) → get_or before k x ≡ get_or order j x) →
+  pub exchange : length order < 10 → IsNumbering (forms_in it) order → BeginsAs d texts names it order k before → k ≤ p → p < j → j < length order → ((x : Var) → get_or before k x ≡ get_or order j x) →
       (get_or order p nobody).sort ≡ (get_or order j nobody).sort → Exchanged
-  exchange is b up low within next sort =
+  exchange small is b up low within next sort =
       let x = get_or order p nobody in
       let long : length before ≡ length order = same-length (forms_in it) before order b.numbering is in
       let t = stands-listed before x ((b.numbering.exact x).1 ((is.exact x).0 (contains-at order x p (omega arith) refl))) in
@@ -80,6 +80,12 @@ module _ (d : Declarations) (texts : List Text) (names : Names) (it : Shown) (or
       let apart : k ≢ q = λ e.
       let same = one-place order is.distinct p j (omega arith) within (sym t.is ∙ ap (λ m. get_or before m nobody) (sym e) ∙ next nobody) in
       omega (arith, same) in
+      let behind : k < q = elim (cases_lt q k) [
+        | inl l ↦
+            let same = one-place order is.distinct p q (omega (arith, low, within)) (omega (arith, long, high)) (sym t.is ∙ b.alike q nobody l) in
+            absurd (omega (arith, same, l, up))
+        | inr h ↦ elim (cases_lt k q) [ inl l ↦ l | inr g ↦ absurd (apart (omega (arith, h, g))) ]
+      ] in
       let ys = swap before k q in
       let s = swapped before k q apart inside high in
       let ylong : length ys ≡ length before = exchanged-length before ys k q inside high refl in
@@ -93,5 +99,14 @@ module _ (d : Declarations) (texts : List Text) (names : Names) (it : Shown) (or
               omega (arith, same)) ∙ b.alike m z l;
         };
         next = λ z. get_or_default ys k z nobody (omega (arith, ylong)) ∙ s.at_first ∙ t.is ∙ get_or_default order p nobody z (omega arith);
-        exchanged = numbers-exchanged x (get_or order j nobody) before ys k q b.numbering.distinct numbering.distinct ylong inside high s t.is (next nobody) sort;
+        raised =
+            let exchanged = numbers-exchanged x (get_or order j nobody) before ys k q b.numbering.distinct numbering.distinct ylong inside high s t.is (next nobody) sort in
+            let first = number-at ys x numbering.distinct k (omega (arith, ylong, inside)) (s.at_first ∙ t.is) in
+            let second = number-at ys (get_or order j nobody) numbering.distinct q (omega (arith, ylong, high)) (s.at_second ∙ next nobody) in
+            record {
+              exchanged = exchanged;
+              some = omega (arith, first);
+              lesser = omega (arith, first, second, behind);
+              few = λ z. let w = number-within before z in omega (arith, w, long, small);
+            };
       }

@@ -90,7 +90,7 @@ sorted-snoc [] b w = refl
 sorted-snoc (t ∷ a) b w = ap (put_text t) (sorted-snoc a b w) ∙ put-put t w (sorted_texts (a ++ b))
 
 module _ (P : Text → Type 0) where
-  all-put : (t : Text) (l : List Text) → P t → AllByRecursion P l → AllByRecursion P (put_text t l)
+  pub all-put : (t : Text) (l : List Text) → P t → AllByRecursion P l → AllByRecursion P (put_text t l)
   all-put t [] p ps = (p, tt)
   all-put t (u ∷ l) p ps = go (is_after t u) (all-put t l p ps.1)
     where
@@ -98,7 +98,7 @@ module _ (P : Text → Type 0) where
       go true ih = (ps.0, ih)
       go false ih = (p, ps)
 
-  all-sorted : (l : List Text) → AllByRecursion P l → AllByRecursion P (sorted_texts l)
+  pub all-sorted : (l : List Text) → AllByRecursion P l → AllByRecursion P (sorted_texts l)
   all-sorted [] ps = tt
   all-sorted (t ∷ l) ps = all-put t (sorted_texts l) ps.0 (all-sorted l ps.1)
 

@@ -4,6 +4,7 @@ mod Applying
 mod Arranged
 mod BoundLines
 mod Collecting
+pub mod Declared
 mod Exchanging
 mod Fronts
 mod Joining
@@ -21,6 +22,8 @@ mod Printable
 mod Printing
 mod ReadBack
 mod ReadLines
+mod Rising
+mod RisingTexts
 mod Searching
 mod Sums
 mod TextOrder

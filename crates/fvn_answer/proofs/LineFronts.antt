@@ -42,7 +42,8 @@ front-longer known other w z front t f = record {
 
 -- Bindings.
 
-pairs-front : (first : Bool) (acc : Text) (ps : List (Text × Text)) → (z : Text) × (with_pairs first acc ps ≡ acc ++ z)
+-- a text with bindings behind it
+pub pairs-front : (first : Bool) (acc : Text) (ps : List (Text × Text)) → (z : Text) × (with_pairs first acc ps ≡ acc ++ z)
 pairs-front first acc [] = ([], sym (append-nil acc))
 pairs-front first acc (p ∷ ps) = go first (λ longer. pairs-front false longer ps)
   where

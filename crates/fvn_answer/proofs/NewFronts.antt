@@ -20,7 +20,7 @@ use Rattle.fvn_answer.proofs.Joining.{quoted-append}
 
 module _ (d : Declarations) (names : Names) where
   -- the text of a variable begins with its name
-  sorted-front : (x : Text) (s : SortId) → (z : Text) × (text_of (sorted d names x s) ≡ x ++ z)
+  pub sorted-front : (x : Text) (s : SortId) → (z : Text) × (text_of (sorted d names x s) ≡ x ++ z)
   unfolding join join_after needs_space
   sorted-front x s = go (nat_lt s.0 d.sorts) refl
     where

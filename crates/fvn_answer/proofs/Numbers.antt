@@ -49,7 +49,7 @@ stands-listed order x h =
     let s = position-some (λ y. same_var y x) 1 order x h (same_var_itself x) in
     stands-found order x s.0 s.1
 
-number-within : (order : List Var) (x : Var) → number order x ≤ length order
+pub number-within : (order : List Var) (x : Var) → number order x ≤ length order
 number-within order x = go (position_from (λ y. same_var y x) 1 order) refl
   where
     go : (o : Option ℕ) → position_from (λ y. same_var y x) 1 order ≡ o → unwrap_or o 0 ≤ length order

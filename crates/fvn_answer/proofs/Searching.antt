@@ -2,7 +2,7 @@
 use Rattle.std.proofs.Common.{◌≡◌, ℕ, Bool, true, false, ◌+◌, ◌<◌, ◌≤◌, inl, inr, List, length, get_or, Option, Some, None, refl, sym, ap, ◌∙◌, subst, arith}
 use Rattle.std.specs.Global.{Vec}
 use Rattle.std.specs.Prelude.{Contains}
-use Rattle.std.specs.List.{SwappedAt}
+use Rattle.std.specs.List.{SwappedAt, swap}
 use Rattle.std.proofs.lemmas.List.{get_or_default}
 use Rattle.std.proofs.lemmas.List.Elements.{Contains-get_or}
 use Rattle.std.proofs.lemmas.Bool.{cases_lt}
@@ -11,7 +11,7 @@ use Rattle.fvn_answer.specs.declared.front.Front.{Front}
 use Rattle.fvn_answer.specs.declared.printed.Printed.{Printed}
 use Rattle.fvn_answer.specs.inner.Readable.{AreReadable}
 use Rattle.fvn_answer.specs.inner.Fronts.{AtLeast, NoneIsNext, IsFrontOf, AgreesUpTo, IsAtMost, IsKept}
-use Rattle.fvn_answer.specs.inner.Twins.{AreExchanged, AreTwins, IsPassedOver}
+use Rattle.fvn_answer.specs.inner.Twins.{AreRaised, GoesFirst, IsPassedOver, LeadsUpTo}
 use Rattle.fvn_terms.specs.declared.plain.Var.{Var}
 use Rattle.fvn_terms.specs.declared.declarations.Declarations.{Declarations}
 use Rattle.fvn_syntax.specs.declared.names.Names.{Names}
@@ -23,7 +23,7 @@ use Rattle.fvn_answer.proofs.Fronts.{at_least-itself, at_least-trans, front-afte
 use Rattle.fvn_answer.proofs.Collecting.{listed-only, not-listed}
 use Rattle.fvn_answer.proofs.Numbers.{nobody, stands-numbered, next-place, nothing-else, agrees, next-begins}
 use Rattle.fvn_answer.proofs.Exchanging.{exchange}
-use Rattle.fvn_answer.proofs.Least.{same-length}
+use Rattle.fvn_answer.proofs.Least.{same-length, exchanged-numbering}
 
 pub most-after : (best : Option (Vec ℕ)) (v w : Text) → IsAtMost best v → AtLeast v w → IsAtMost best w
 most-after None v w h k = h
@@ -76,10 +76,16 @@ module _ (d : Declarations) (texts : List Text) (names : Names) (it : Shown) whe
         ];
       }
 
+  raised-most : (printed : Printed) → it ≡ shown printed → AreReadable d names → CanPrint d texts printed → (best : Option (Vec ℕ)) (x y : Var) (one two : List Var) → GoesFirst d printed x y →
+      AreRaised x y one two → IsAtMost best (text d names texts one it) → IsAtMost best (text d names texts two it)
+  raised-most printed is readable can best x y one two first e h =
+      most-after best (text d names texts one it) (text d names texts two it) h
+      (subst (λ shown. AtLeast (text d names texts one shown) (text d names texts two shown)) (sym is) (first.least names texts readable can one two e))
+
   -- it is passed over
-  pub searched-twin : (printed : Printed) → it ≡ shown printed → AreReadable d names → CanPrint d texts printed → (order tips : List Var) (k j : ℕ) (old best : Option (Vec ℕ)) →
-      IsNumbering (forms_in it) order → j < length order → IsPassedOver d printed order k j tips → SearchedUpTo order k j tips old best → SearchedUpTo order k (j + 1) tips old best
-  searched-twin printed is readable can order tips k j old best n within passed s =
+  pub searched-passed : (printed : Printed) → it ≡ shown printed → AreReadable d names → CanPrint d texts printed → (order tips : List Var) (k j : ℕ) (old best : Option (Vec ℕ)) →
+      length order < 10 → IsNumbering (forms_in it) order → j < length order → IsPassedOver d printed order k j tips → SearchedUpTo order k j tips old best → SearchedUpTo order k (j + 1) tips old best
+  searched-passed printed is readable can order tips k j old best small n within passed s =
       let up = s.up in record {
         up = omega arith;
         one = s.one;
@@ -90,19 +96,52 @@ module _ (d : Declarations) (texts : List Text) (names : Names) (it : Shown) whe
               let last = t.upto in
               let at : t.place ≡ j = omega arith in
               let next : (x : Var) → get_or other k x ≡ get_or order j x = λ x. subst (λ p. get_or other k x ≡ get_or order p x) at (t.next x) in
-              let twin = passed nobody (subst (λ p. Contains tips (get_or order p nobody)) at (t.tip nobody)) in
-              let twins = twin.twins nobody in
-              let e = exchange d texts names it order other k j twin.place n t.begins twin.from twin.upto within next twins.sort in
-              most printed is readable can best (get_or order twin.place nobody) (get_or order j nobody) e.turned other twins e.exchanged
-              (s.tried e.turned (record { begins = e.begins; place = twin.place; from = twin.from; upto = twin.upto; next = e.next; tip = twin.tip }))
+              let first = passed nobody (subst (λ p. Contains tips (get_or order p nobody)) at (t.tip nobody)) in
+              let goes = first.first nobody in
+              let e = exchange d texts names it order other k j first.place small n t.begins first.from first.upto within next goes.sort in
+              raised-most printed is readable can best (get_or order first.place nobody) (get_or order j nobody) e.turned other goes e.raised
+              (s.tried e.turned (record { begins = e.begins; place = first.place; from = first.from; upto = first.upto; next = e.next; tip = first.tip }))
         ];
       }
-    where
-      most : (printed : Printed) → it ≡ shown printed → AreReadable d names → CanPrint d texts printed → (best : Option (Vec ℕ)) (x y : Var) (one two : List Var) → AreTwins d printed x y →
-          AreExchanged x y one two → IsAtMost best (text d names texts one it) → IsAtMost best (text d names texts two it)
-      most printed is readable can best x y one two twins e h =
-          let same = subst (λ shown. text d names texts one shown ≡ text d names texts two shown) (sym is) (sym (twins.same names texts readable can one two e)) in
-          subst (IsAtMost best) same h
+
+  -- an order that goes on with the same variable begins alike
+  begins-further : (order other : List Var) (k : ℕ) → BeginsAs d texts names it order k other → ((x : Var) → get_or other k x ≡ get_or order k x) → BeginsAs d texts names it order (k + 1) other
+  begins-further order other k b is = record {
+    numbering = b.numbering;
+    alike = λ m x l. elim (cases_lt m k) [
+      | inl below ↦ b.alike m x below
+      | inr high ↦
+          let at : k ≡ m = omega arith in
+          subst (λ p. get_or other p x ≡ get_or order p x) at (is x)
+    ];
+  }
+
+  -- the variable at k goes before all behind it
+  pub searched-led : (printed : Printed) → it ≡ shown printed → AreReadable d names → CanPrint d texts printed → (order : List Var) (k : ℕ) (old best : Option (Vec ℕ)) →
+      length order < 10 → IsNumbering (forms_in it) order → k < length order → LeadsUpTo d printed order k (length order) → IsSearched d texts names it order (k + 1) old best →
+      IsSearched d texts names it order k old best
+  searched-led printed is readable can order k old best small n inside leads s = record {
+    one = s.one;
+    keeps = s.keeps;
+    most = λ other b.
+        let at = next-place d texts names it order other k inside n b in
+        let from = at.from in
+        let upto = at.upto in
+        elim (cases_lt k at.place) [
+          | inl behind ↦
+              let first = leads at.place nobody nobody behind upto in
+              let e = exchange d texts names it order other k at.place k small n b (omega arith) behind upto at.next first.sort in
+              raised-most printed is readable can best (get_or order k nobody) (get_or order at.place nobody) e.turned other first e.raised
+              (s.most e.turned (begins-further order e.turned k e.begins e.next))
+          | inr low ↦
+              let here : at.place ≡ k = omega (arith, from, low) in
+              s.most other (begins-further order other k b (λ x. subst (λ p. get_or other k x ≡ get_or order p x) here (at.next x)))
+        ];
+  }
+
+  -- two variables of a numbering exchanged
+  pub exchanged-again : (order ys : List Var) (i j : ℕ) → i < length order → j < length order → ys ≡ swap order i j → IsNumbering (forms_in it) order → IsNumbering (forms_in it) ys
+  exchanged-again order ys i j low high e n = exchanged-numbering (forms_in it) order ys i j low high e n
 
   -- all tips have been tried
   pub searched-tips : (order tips : List Var) (k j : ℕ) (old best : Option (Vec ℕ)) → IsNumbering (forms_in it) order → k < length order → length order ≤ j → SearchedUpTo order k j tips old best →

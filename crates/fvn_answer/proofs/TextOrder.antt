@@ -35,16 +35,16 @@ between Greater e h = cc
 abbrev pub same : Text → Text → Bool
 same s t = is_eq (text_cmp s t)
 
-same_is : (s t : Text) → same s t ≡ true → s ≡ t
+pub same_is : (s t : Text) → same s t ≡ true → s ≡ t
 same_is s t e = (bytes_decides s t).0 (texts_ties s t ∙ e)
 
-same_itself : (s : Text) → same s s ≡ true
+pub same_itself : (s : Text) → same s s ≡ true
 same_itself s = sym (texts_ties s s) ∙ (bytes_decides s s).1 refl
 
 pub not_after : (t u : Text) → is_after t u ≡ true → is_after u t ≡ false
 not_after t u e = rw (nat_list_cmp_total.antisymm u t) (turned (text_cmp t u) e)
 
-neither_after : (t u : Text) → is_after t u ≡ false → is_after u t ≡ false → t ≡ u
+pub neither_after : (t u : Text) → is_after t u ≡ false → is_after u t ≡ false → t ≡ u
 neither_after t u e h = same_is t u (between (text_cmp t u) e (rw (nat_list_cmp_total.antisymm u t) at h))
 
 pub after_trans : (t u v : Text) → is_after t u ≡ false → is_after u v ≡ false → is_after t v ≡ false
@@ -78,7 +78,7 @@ abbrev pub count : Text → List Text → ℕ
 count q [] = 0
 count q (t ∷ l) = one_if (same q t) + count q l
 
-count_itself : (q : Text) (l : List Text) → count q (q ∷ l) ≡ 1 + count q l
+pub count_itself : (q : Text) (l : List Text) → count q (q ∷ l) ≡ 1 + count q l
 count_itself q l = ap (λ b. one_if b + count q l) (same_itself q)
 
 -- without the first that is q

@@ -1,5 +1,5 @@
 -- Texts with the numbers of twins exchanged.
-use Rattle.std.proofs.Common.{◌≡◌, ◌≢◌, ◌⊎◌, inl, inr, ℕ, zero, suc, ◌+◌, ◌<◌, ◌≤◌, Bool, true, false, Some, List, [], ◌∷◌, ◌++◌, length, get_or, refl, sym, ap, ◌∙◌, subst, map, arith}
+use Rattle.std.proofs.Common.{◌≡◌, ◌≢◌, ◌⊎◌, inl, inr, ℕ, zero, suc, ◌+◌, ◌<◌, ◌≤◌, Bool, true, false, Option, Some, List, [], ◌∷◌, length, get_or, refl, sym, ap, ◌∙◌, subst, map, arith}
 use Rattle.std.specs.Prelude.{if◌then◌else◌, not, decimal, slice_get, codes, Contains}
 use Rattle.std.specs.Option.{is_some}
 use Rattle.std.specs.List.{AllByRecursion}
@@ -23,24 +23,23 @@ use Rattle.fvn_syntax.specs.declared.names.Names.{Names}
 use Rattle.fvn_syntax.specs.Pieces.{Text}
 use Rattle.fvn_problems.specs.Variables.{IsNamed}
 use Rattle.fvn_answer.specs.declared.printed.Printed.{Printed}
-use Rattle.fvn_answer.specs.declared.printed.Printed.TheVariants.{Alone, Values, Variant}
 use Rattle.fvn_answer.specs.Numberings.{number, new_name}
 use Rattle.fvn_answer.specs.Lines.{values, values_of, asked_name, text}
 use Rattle.fvn_terms.specs.Equality.{is_commutative}
 use Rattle.fvn_answer.specs.Writing.{text_of, sorted, written}
 use Rattle.fvn_answer.specs.inner.Readable.{AreReadable}
 use Rattle.fvn_answer.specs.inner.Bytes.{beside, with_pairs, over_texts, arranged_texts, IsPrintable}
-use Rattle.fvn_answer.specs.inner.Shown.{shown, value_texts, HavePrintable, CanPrint}
-use Rattle.fvn_answer.specs.inner.Twins.{AreExchanged, is_here, times, KeepsText, KeepsArgument, KeepsTexts, KeepsPrinted, AreTwins, HasTwin, IsPassedOver}
+use Rattle.fvn_answer.specs.inner.Shown.{value_texts, HavePrintable}
+use Rattle.fvn_answer.specs.inner.Twins.{AreExchanged, is_here, times, KeepsText, KeepsArgument, KeepsTexts, GoesFirst, HasFirst, IsPassedOver, LeadsUpTo}
 use Rattle.fvn_answer.proofs.Collecting.{not-listed}
 use Rattle.fvn_answer.proofs.TextOrder.{same, one_if, count, same_counts}
 use Rattle.fvn_answer.proofs.Printing.{application-text, operator-filled, argument-printable}
-use Rattle.fvn_answer.proofs.ValueTexts.{values-text, whole-text}
+use Rattle.fvn_answer.proofs.ValueTexts.{values-text}
 
 -- Counts.
 
 -- n, or nothing
-abbrev part : Bool → ℕ → ℕ
+abbrev pub part : Bool → ℕ → ℕ
 part true n = n
 part false n = 0
 
@@ -60,13 +59,13 @@ pub differs : (z x : Var) → same_var z x ≡ false → z ≢ x
 differs z x e is = let s : same_var z x ≡ true = subst (λ y. same_var z y ≡ true) is (same_var_itself z) in let n : true ≡ false = sym s ∙ e in cc
 
 module _ (d : Declarations) (names : Names) (x y : Var) (order other : List Var) (e : AreExchanged x y order other) where
-  abbrev old_text : FlatTerm → Text
+  abbrev pub old_text : FlatTerm → Text
   old_text t = text_of (written d names order t)
 
-  abbrev new_text : FlatTerm → Text
+  abbrev pub new_text : FlatTerm → Text
   new_text t = text_of (written d names other t)
 
-  variable-text : (z v : Var) → number other z ≡ number order v → z.sort ≡ v.sort → new_text (fvar z) ≡ old_text (fvar v)
+  pub variable-text : (z v : Var) → number other z ≡ number order v → z.sort ≡ v.sort → new_text (fvar z) ≡ old_text (fvar v)
   variable-text z v n s =
       ap (λ m. text_of (sorted d names (35 ∷ decimal m) z.sort)) n ∙ ap (λ (q : SortId). text_of (sorted d names (new_name order v) q)) s
 
@@ -75,17 +74,17 @@ module _ (d : Declarations) (names : Names) (x y : Var) (order other : List Var)
   other-variable z n m = variable-text z z (e.same z n m) refl
 
   -- the argument's text stays, or it is a variable among arguments that may be exchanged
-  abbrev Kept : Bool → FlatTerm → Type 0
+  abbrev pub Kept : Bool → FlatTerm → Type 0
   Kept exchange t = ((exchange ≡ true) × (is_some (variable_of t) ≡ true)) ⊎ (new_text t ≡ old_text t)
 
   module _ (q : Text) where
-    abbrev a : Bool
+    abbrev pub a : Bool
     a = same q (old_text (fvar x))
 
-    abbrev b : Bool
+    abbrev pub b : Bool
     b = same q (old_text (fvar y))
 
-    abbrev Counts : List FlatTerm → Type 0
+    abbrev pub Counts : List FlatTerm → Type 0
     Counts ts = count q (map new_text ts) + (part a (times x ts) + part b (times y ts)) ≡ count q (map old_text ts) + (part b (times x ts) + part a (times y ts))
 
     -- one argument more, of which it is known how often its texts are q, and whether it is one of the two variables
@@ -124,7 +123,7 @@ module _ (d : Declarations) (names : Names) (x y : Var) (order other : List Var)
             (ap (λ s. if s then 1 else 0) p) (ap (λ s. if s then 1 else 0) r)
             (let za = part-zero a (times x ts) in let zb = part-zero b (times x ts) in let zc = part-zero b (times y ts) in let zd = part-zero a (times y ts) in omega (arith, za, zb, zc, zd, ih))
 
-    counts : (ts : List FlatTerm) → AllByRecursion (Kept true) ts → Counts ts
+    pub counts : (ts : List FlatTerm) → AllByRecursion (Kept true) ts → Counts ts
     counts [] k = let m = part-none a in let n = part-none b in omega (arith, m, n)
     counts (fvar z ∷ ts) k = count-variable z ts (counts ts k.1)
     counts (fapp f joined us ∷ ts) k = elim k.0 [
@@ -160,7 +159,7 @@ not-false true e = refl
 not-false false e = cc
 
 -- what stands at a place
-some-at : {A : Type 0} (xs : List A) (i : ℕ) → i < length xs → (x : A) × (slice_get xs i ≡ Some x)
+pub some-at : {A : Type 0} (xs : List A) (i : ℕ) → i < length xs → (x : A) × (slice_get xs i ≡ Some x)
 some-at [] i h = absurd (omega (arith, h))
 some-at (y ∷ xs) zero h = (y, refl)
 some-at (y ∷ xs) (suc i) h = some-at xs i (omega (arith, h))
@@ -205,7 +204,7 @@ module _ (d : Declarations) (x y : Var) where
       let more = pairs-same names texts readable order other e s vars (λ v c. p v (contains_later z vars v c)) (λ v c. k v (contains_later z vars v c)) in
       λ i. (text_of (sorted d names (asked_name d names texts z) z.sort), one i) ∷ more i
 
-  values-same : (names : Names) (texts : List Text) → AreReadable d names → (order other : List Var) → AreExchanged x y order other → (s : Bindings) (vars : List Var) →
+  pub values-same : (names : Names) (texts : List Text) → AreReadable d names → (order other : List Var) → AreExchanged x y order other → (s : Bindings) (vars : List Var) →
       HavePrintable d texts s vars → KeepsTexts d x y s vars → text d names texts other (values (values_of s vars)) ≡ text d names texts order (values (values_of s vars))
   values-same names texts readable order other e s vars p k =
       sym (values-text d names readable texts other s vars p)
@@ -213,17 +212,33 @@ module _ (d : Declarations) (x y : Var) where
       (pairs-same names texts readable order other e s vars (λ z c. (All-contains (λ v. IsNamed d texts v × IsPrintable d (value s v)) vars z p c).1) k)
       ∙ values-text d names readable texts order s vars p
 
-  printed-same : (printed : Printed) → KeepsPrinted d x y printed → (names : Names) (texts : List Text) → AreReadable d names → CanPrint d texts printed →
-      (order other : List Var) → AreExchanged x y order other → text d names texts other (shown printed) ≡ text d names texts order (shown printed)
-  printed-same (Alone t) k names texts readable p order other e = k names readable p order other e
-  printed-same (Values s vars) k names texts readable p order other e = values-same names texts readable order other e s.now vars.now p k
-  printed-same (Variant t s vars) k names texts readable p order other e =
-      sym (whole-text d names readable texts other s.now t.now vars.now)
-      ∙ (λ i. k.0 names readable p.0 order other e i ++ (32 ∷ []) ++ values-same names texts readable order other e s.now vars.now p.1 k.1 i)
-      ∙ whole-text d names readable texts order s.now t.now vars.now
+-- one more argument that is a variable
+pub variable-more : (args : List FlatTerm) (i : ℕ) (u : FlatTerm) (v : Option Var) (none : Bool) → i < length args → u ≡ get_or args i u → v ≡ variable_of u → is_some v ≡ not none → none ≡ false →
+    ((j : ℕ) (z : FlatTerm) → j < i → is_some (variable_of (get_or args j z)) ≡ true) → (j : ℕ) (z : FlatTerm) → j < i + 1 → is_some (variable_of (get_or args j z)) ≡ true
+variable-more args i u v none within is variable e f before j z low = elim (cases_lt j i) [
+  | inl l ↦ before j z l
+  | inr high ↦
+      let at : i ≡ j = omega arith in
+      let here : is_some (variable_of u) ≡ true = subst (λ o. is_some o ≡ true) variable (e ∙ ap not f) in
+      subst (λ p. is_some (variable_of (get_or args p z)) ≡ true) at (subst (λ w. is_some (variable_of w) ≡ true) (is ∙ get_or_default args i u z within) here)
+]
 
-  pub twins-by : (printed : Printed) → x.sort ≡ y.sort → KeepsPrinted d x y printed → AreTwins d printed x y
-  twins-by printed e k = record { sort = e; same = printed-same printed k }
+-- one more argument that keeps its text
+pub text-kept : (d : Declarations) (x y : Var) (args : List FlatTerm) (i : ℕ) (u : FlatTerm) → i < length args → u ≡ get_or args i u → KeepsText d x y u →
+    ((j : ℕ) (z : FlatTerm) → j < i → KeepsText d x y (get_or args j z)) → (j : ℕ) (z : FlatTerm) → j < i + 1 → KeepsText d x y (get_or args j z)
+text-kept d x y args i u within is k before j z low = elim (cases_lt j i) [
+  | inl l ↦ before j z l
+  | inr high ↦
+      let at : i ≡ j = omega arith in
+      subst (λ p. KeepsText d x y (get_or args p z)) at (subst (KeepsText d x y) (is ∙ get_or_default args i u z within) k)
+]
+
+-- all values keep their texts
+pub all-kept-texts : (d : Declarations) (x y : Var) (s : Bindings) (vars : List Var) (i : ℕ) → length vars ≤ i → ((j : ℕ) (v : Var) → j < i → KeepsText d x y (value s (get_or vars j v))) →
+    KeepsTexts d x y s vars
+all-kept-texts d x y s vars i end kept z c =
+    let low = c.1 in
+    subst (λ v. KeepsText d x y (value s v)) c.2 (kept c.0 z (omega (arith, low, end)))
 
 -- one more value
 pub value-kept : (d : Declarations) (x y : Var) (s : Bindings) (vars : List Var) (i : ℕ) (e : Var) → i < length vars → KeepsText d x y (value s (get_or vars i e)) →
@@ -236,17 +251,28 @@ value-kept d x y s vars i e within k before j v low = elim (cases_lt j i) [
 ]
 
 module _ (d : Declarations) (printed : Printed) (order : List Var) (k j : ℕ) (tips : List Var) where
-  pub twin-at : (x : Var) (i : ℕ) (e : Var) → k ≤ i → i < j → i < length order → Contains tips (get_or order i e) × AreTwins d printed (get_or order i e) x → HasTwin d printed order k j tips x
-  twin-at x i e from upto within t = record {
+  pub first-at : (x : Var) (i : ℕ) (e : Var) → k ≤ i → i < j → i < length order → Contains tips (get_or order i e) × GoesFirst d printed (get_or order i e) x → HasFirst d printed order k j tips x
+  first-at x i e from upto within t = record {
     place = i;
     from = from;
     upto = upto;
     tip = λ y. subst (Contains tips) (get_or_default order i e y within) t.0;
-    twins = λ y. subst (λ z. AreTwins d printed z x) (get_or_default order i e y within) t.1;
+    first = λ y. subst (λ z. GoesFirst d printed z x) (get_or_default order i e y within) t.1;
   }
 
   pub passed-other : (e : Var) → j < length order → listed tips (get_or order j e) ≡ false → IsPassedOver d printed order k j tips
   passed-other e within other x c = absurd (not-listed tips (get_or order j e) other (subst (Contains tips) (get_or_default order j x e within) c))
 
-  pub passed-twin : (e : Var) → j < length order → HasTwin d printed order k j tips (get_or order j e) → IsPassedOver d printed order k j tips
-  passed-twin e within t x c = subst (HasTwin d printed order k j tips) (get_or_default order j e x within) t
+  pub passed-first : (e : Var) → j < length order → HasFirst d printed order k j tips (get_or order j e) → IsPassedOver d printed order k j tips
+  passed-first e within t x c = subst (HasFirst d printed order k j tips) (get_or_default order j e x within) t
+
+-- one variable more that another one goes before
+pub leads-further : (d : Declarations) (printed : Printed) (order : List Var) (k i : ℕ) (e : Var) → k < length order → i < length order → GoesFirst d printed (get_or order k e) (get_or order i e) →
+    LeadsUpTo d printed order k i → LeadsUpTo d printed order k (i + 1)
+leads-further d printed order k i e inside within first before j x y low high = elim (cases_lt j i) [
+  | inl l ↦ before j x y low l
+  | inr up ↦
+      let at : i ≡ j = omega arith in
+      subst (λ m. GoesFirst d printed (get_or order k x) (get_or order m y)) at
+      (subst (λ z. GoesFirst d printed z (get_or order i y)) (get_or_default order k e x inside) (subst (GoesFirst d printed (get_or order k e)) (get_or_default order i e y within) first))
+]

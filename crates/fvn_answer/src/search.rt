@@ -12,7 +12,7 @@ use crate::front::Fixed;
 use crate::line_front::front;
 use crate::numbering::{FEW_VARIABLES, variables};
 use crate::printed::{Printed, text};
-use crate::twins::is_tried;
+use crate::twins::{goes_first, is_tried, leads};
 use fvn_signature::Signature;
 use fvn_syntax::{Names, VarNames};
 use fvn_terms::{NoMemory, Var};
@@ -118,6 +118,19 @@ fn search(
         keep_lesser(best, line);
         return Ok(());
     }
+    if leads(signature, printed, order, k) {
+        search(
+            alloc,
+            signature,
+            names,
+            var_names,
+            printed,
+            order,
+            k + 1,
+            &mut *best,
+        )?;
+        return Ok(());
+    }
     let fixed = Fixed { order, known: k };
     let front = front(alloc, signature, names, var_names, &fixed, printed)?;
     if !may_be_less(best, front.text.as_slice()) {
@@ -143,6 +156,61 @@ fn search(
     Ok(())
 }
 
+// Whether the variable at j stands where the one at i is to stand.
+fn stands_too_late(
+    signature: &Signature,
+    printed: &Printed<'_>,
+    order: &[Var],
+    i: usize,
+    j: usize,
+) -> bool
+    requires first { i < length order.now }
+    requires second { j < length order.now }
+{
+    if goes_first(signature, printed, order[i], order[j]) {
+        return false;
+    }
+    goes_first(signature, printed, order[j], order[i])
+}
+
+// The order with a variable at i that goes before those behind it, if there is one.
+fn with_first(
+    alloc: Global,
+    signature: &Signature,
+    printed: &Printed<'_>,
+    order: &[Var],
+    i: usize,
+) -> Result<Vec<Var>, NoMemory>
+    requires numbering { IsNumbering (forms_in (shown printed.now)) order.now }
+    requires within { i < length order.now }
+    ensures { IfOk result (λ other. IsNumbering (forms_in (shown printed.now)) other.items) }
+{
+    let mut other = Vec::from_slice(alloc, order)?;
+    for j in i + 1..order.len() {
+        if stands_too_late(signature, printed, other.as_slice(), i, j) {
+            other = exchanged(alloc, other.as_slice(), i, j)?;
+        }
+    }
+    Ok(other)
+}
+
+// The order with the variables put first that go before others.
+fn in_order(
+    alloc: Global,
+    signature: &Signature,
+    printed: &Printed<'_>,
+    order: &[Var],
+) -> Result<Vec<Var>, NoMemory>
+    requires numbering { IsNumbering (forms_in (shown printed.now)) order.now }
+    ensures { IfOk result (λ other. IsNumbering (forms_in (shown printed.now)) other.items) }
+{
+    let mut other = Vec::from_slice(alloc, order)?;
+    for i in 0..order.len() {
+        other = with_first(alloc, signature, printed, other.as_slice(), i)?;
+    }
+    Ok(other)
+}
+
 // The least text under a numbering.
 fn least_text(
     alloc: Global,
@@ -159,9 +227,17 @@ fn least_text(
     ensures { IfOk result (λ line. IsLeastText signature.now var_names.now.texts names.now
         (shown printed.now) line.items) }
 {
+    let first = in_order(alloc, signature, printed, order)?;
     let mut best = None;
     search(
-        alloc, signature, names, var_names, printed, order, 0, &mut best,
+        alloc,
+        signature,
+        names,
+        var_names,
+        printed,
+        first.as_slice(),
+        0,
+        &mut best,
     )?;
     match best {
         Some(line) => Ok(line),

@@ -1,6 +1,6 @@
 -- What is told of what was found.
 use Rattle.std.proofs.Common.{◌≡◌, ◌<◌, ℕ, Bool, true, false, List, [], ◌∷◌, map, length, get_or, Some, None, refl, sym, ap, ◌∙◌, subst, inl, inr, arith}
-use Rattle.std.specs.Prelude.{All, AllPairs, Contains, if◌then◌else◌}
+use Rattle.std.specs.Prelude.{All, AllPairs, Any, Contains, if◌then◌else◌}
 use Rattle.std.proofs.lemmas.List.{get_or-map, length-map}
 use Rattle.std.proofs.lemmas.List.Elements.{All-map, All-weaker, All-contains_itself, All-contains}
 use Rattle.fvn_base.specs.declared.limits.TheConstants.{NEXT_FRESH}
@@ -15,6 +15,7 @@ use Rattle.fvn_flat.specs.OneAnswer.{IsCompleteFor, IsApartFor}
 use Rattle.fvn_flat.specs.Problems.{variables_of}
 use Rattle.fvn_flat.specs.Solving.{substitution, problem_of, Binds, IsNumbered, IsCause}
 use Rattle.fvn_flat.specs.declared.solver.Pairs.{Pairs}
+use Rattle.fvn_flat.specs.declared.solver.Solved.{Solved}
 use Rattle.fvn_flat.specs.declared.solver.SolveEnd.{SolveEnd}
 use Rattle.fvn_flat.specs.declared.solver.SolveEnd.TheVariants.{Complete, Basis, Unifiers, Size}
 use Rattle.fvn_flat.specs.declared.solver.SizeCause.TheVariants.{Problem, Binding, Term}
@@ -28,7 +29,8 @@ use Rattle.fvn_refine.proofs.Refined.{listed_member}
 use Rattle.fvn_refine.proofs.VariablesListed.{occurs_in_terms}
 use Rattle.fvn_axunify.specs.Solved.{IsSolvedAs}
 use Rattle.fvn_axunify.specs.inner.Asked.{IsAsked}
-use Rattle.fvn_axunify.specs.inner.Members.{IsKept, AreKept}
+use Rattle.fvn_axunify.specs.Searched.{IsAnswered}
+use Rattle.fvn_axunify.specs.inner.Members.{IsKept, AreKept, IsReached}
 use Rattle.fvn_axunify.specs.inner.Found.{IsEndOf, IsFound}
 use Rattle.fvn_axunify.specs.inner.Numbers.{AreBelow, IsAboveAll}
 use Rattle.fvn_axunify.proofs.Pairs.{from_terms}
@@ -71,6 +73,21 @@ module _ (d : Declarations) (given : Pairs) (vars : List Var) (first most size :
   pub all_small : (kept : List Variant) → AreKept d given vars first kept → All (λ s. AreBelow NEXT_FRESH (variables_of_terms s)) (map (λ v. v.subst) kept)
   all_small kept are = All-map (λ s. AreBelow NEXT_FRESH (variables_of_terms s)) (λ v. v.subst) kept (All-weaker (IsKept d given vars first) (λ v. AreBelow NEXT_FRESH (variables_of_terms v.subst)) small_values kept are.members)
 
+  -- instances on the problem's variables
+  on_vars : (a b : Substitution) → IsInstance d (variables_of (problem_of given)) a b → IsInstance d vars a b
+  on_vars a b i = record { after = i.after; well_sorted = i.well_sorted; equal = λ x c. i.equal x ((asked.variables x).0 c) }
+
+  from_vars : (a b : Substitution) → IsInstance d vars a b → IsInstance d (variables_of (problem_of given)) a b
+  from_vars a b i = record { after = i.after; well_sorted = i.well_sorted; equal = λ x c. i.equal x ((asked.variables x).1 c) }
+
+  -- what is an instance of a kept one is one of the answer
+  pub reached_answered : (kept : List Variant) (r : Solved) → r.unifiers ≡ map (λ v. v.subst) kept → (u : Substitution) → IsReached d given vars kept u → IsAnswered d given r u
+  reached_answered kept r is u reached =
+      let P : Bindings → Type 0 = λ s. IsInstance d (variables_of (problem_of given)) u (substitution s) in
+      let k = any_contains (λ v. IsInstance d vars u (substitution v.subst)) kept reached in
+      subst (λ (l : List Bindings). Any P l) (sym is)
+      (any_of P (map (λ v. v.subst) kept) k.0.subst (contains_map (λ v. v.subst) kept k.0 k.1.0) (from_vars u (substitution k.0.subst) k.1.1))
+
   module _ (law : CoveringOfUnifiersIsInstance) (kept : List Variant) (end : SolveEnd) (found : IsFound d given vars first most size kept end) (next : ℕ) (above : IsAboveAll first (map (λ v. v.subst) kept) next) where
     -- what holds of each
     each : (P : Bindings → Type 0) → ((v : Variant) → IsKept d given vars first v → P v.subst) → All P (map (λ v. v.subst) kept)
@@ -90,13 +107,6 @@ module _ (d : Declarations) (given : Pairs) (vars : List Var) (first most size :
             let b = (k.member.binds x).0 i in
             let there : Contains (variables_of_terms v.subst) y = listed_member (variables_of_terms v.subst) y (occurs_in_terms v.subst x y b.0 b.1 (subst (λ o. Occurs y (plain (form_or x o))) b.1 o)) in
             (n.0, n.1, number_below v.subst (contains_map (λ v. v.subst) kept v c) y there)
-
-    -- instances on the problem's variables
-    on_vars : (a b : Substitution) → IsInstance d (variables_of (problem_of given)) a b → IsInstance d vars a b
-    on_vars a b i = record { after = i.after; well_sorted = i.well_sorted; equal = λ x c. i.equal x ((asked.variables x).0 c) }
-
-    from_vars : (a b : Substitution) → IsInstance d vars a b → IsInstance d (variables_of (problem_of given)) a b
-    from_vars a b i = record { after = i.after; well_sorted = i.well_sorted; equal = λ x c. i.equal x ((asked.variables x).1 c) }
 
     covers : (a b : Variant) → IsKept d given vars first a → IsKept d given vars first b → IsInstance d (variables_of (problem_of given)) (substitution b.subst) (substitution a.subst) → CoversVariant d a b
     covers a b j k i = (law d a b j.no_terms k.no_terms).1 (subst (λ l. IsInstance d l (substitution b.subst) (substitution a.subst)) (sym j.vars_are) (on_vars (substitution b.subst) (substitution a.subst) i))
@@ -128,7 +138,7 @@ module _ (d : Declarations) (given : Pairs) (vars : List Var) (first most size :
 
     cause : (end : SolveEnd) → IsEndOf d given vars most size kept end → IsCause d given most size (length (map (λ v. v.subst) kept)) end
     cause Complete h = tt
-    cause (Basis f system) h = h.1
+    cause (Basis f system) h = h.1.at.cause
     cause Unifiers h = length-map kept (λ v. v.subst) ∙ h
     cause (Size (Problem p)) h = absurd h
     cause (Size (Binding list)) h = h.1

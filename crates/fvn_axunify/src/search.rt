@@ -6,7 +6,9 @@ ghost use Rattle.fvn_terms.specs.Unifiers.{IsUnifier};
 ghost use Rattle.fvn_flat.specs.Solving.{problem_of, symbols_of_pairs};
 ghost use Rattle.fvn_combine.specs.Advancing.{IsOf, IsToCome};
 ghost use Rattle.fvn_axunify.specs.inner.Asked.{IsAsked};
-ghost use Rattle.fvn_axunify.specs.inner.Found.{IsFound, IsRunToEnd, IsSearched};
+ghost use Rattle.fvn_axunify.specs.inner.Found.{IsFound};
+ghost use Rattle.fvn_axunify.specs.inner.Members.{IsReached};
+ghost use Rattle.fvn_axunify.specs.Searched.{IsRunToEnd, IsSearched};
 
 use crate::members::with_refinements;
 use crate::next::{Next, step};
@@ -36,8 +38,9 @@ fn run_through(task: &Task, combiner: &mut Combiner) -> Result<Found, NoMemory>
         task.now.limits.unifiers task.now.limits.size f.kept.items f.end) }
     // What the combiner gave is kept.
     ensures run { IfOk result (λ f.
-        IsRunToEnd task.now.sig.now task.now.problem.now task.now.vars.now combiner.old combiner.new
-        f.kept.items f.end) }
+        IsRunToEnd task.now.sig.now task.now.problem.now
+        (IsReached task.now.sig.now task.now.problem.now task.now.vars.now f.kept.items)
+        combiner.old combiner.new f.end) }
 {
     let most = task.limits.unifiers as usize;
     let mut kept = Vec::new(task.alloc);
@@ -67,9 +70,10 @@ pub(crate) fn search(task: &Task) -> Result<Found, NoMemory>
         IsFound task.now.sig.now task.now.problem.now task.now.vars.now task.now.first
         task.now.limits.unifiers task.now.limits.size f.kept.items f.end) }
     // At every end what the search gave is kept.
-    ensures run { IfOk result (λ f.
-        IsSearched task.now.sig.now task.now.problem.now task.now.vars.now task.now.first
-        task.now.limits.size f.kept.items f.end) }
+    ensures searched { IfOk result (λ f.
+        IsSearched task.now.sig.now task.now.problem.now
+        (IsReached task.now.sig.now task.now.problem.now task.now.vars.now f.kept.items)
+        task.now.first task.now.limits.size f.end) }
 {
     let mut combiner = Combiner::for_sorts(
         task.alloc,

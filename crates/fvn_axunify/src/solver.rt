@@ -5,7 +5,10 @@ ghost use Rattle.fvn_flat.specs.Solving.{IsGiven, symbols_of_pairs, AreUnifiers,
 ghost use Rattle.fvn_flat.specs.Drawn.{IsDrawn};
 ghost use Rattle.fvn_axunify.specs.Solvers.{Solver};
 ghost use Rattle.fvn_axunify.specs.Exact.{IsExact};
+ghost use Rattle.fvn_axunify.specs.Searched.{IsSearched, HoldsItsSearch};
+ghost use Rattle.fvn_axunify.specs.Coarser.{HoldsCoarserOnes};
 ghost use Rattle.fvn_axunify.specs.inner.Found.{IsFound};
+ghost use Rattle.fvn_axunify.specs.inner.Members.{IsReached};
 ghost use Rattle.fvn_axunify.specs.inner.Asked.{IsAsked};
 ghost use Rattle.fvn_axunify.specs.Solved.{IsSolvedAs};
 
@@ -67,10 +70,16 @@ fn told(task: &Task, found: Found) -> Result<Solved, NoMemory>
     requires found { IsFound task.now.sig.now task.now.problem.now task.now.vars.now task.now.first
         task.now.limits.unifiers task.now.limits.size found.kept.items found.end }
     requires small { symbols_of_pairs task.now.problem.now.pairs ≤ task.now.limits.size }
+    requires searched { IsSearched task.now.sig.now task.now.problem.now
+        (IsReached task.now.sig.now task.now.problem.now task.now.vars.now found.kept.items)
+        task.now.first task.now.limits.size found.end }
     ensures solved { IfOk result (IsSolvedAs task.now.sig.now task.now.problem.now task.now.first
         task.now.limits.unifiers task.now.limits.size) }
     ensures exact { IfOk result (IsExact task.now.problem.now task.now.first
         task.now.limits.unifiers task.now.limits.size) }
+    ensures searched { IfOk result (HoldsItsSearch task.now.sig.now task.now.problem.now
+        task.now.first task.now.limits.size) }
+    ensures coarser { IfOk result (HoldsCoarserOnes task.now.sig.now task.now.problem.now) }
 {
     covering_of_unifiers_is_instance();
     let list = unifiers(task.alloc, found.kept)?;
@@ -108,6 +117,12 @@ impl<'a> AxiomUnify<'a> {
             self.now.most_unifiers self.now.most_symbols) }
         ensures exact { IfOk result (IsExact problem.now first_fresh
             self.now.most_unifiers self.now.most_symbols) }
+        // At every end what the search gave is an instance of what is answered, but for that with which the
+        // limit was reached; and a refused sum system ends it only where no question is open.
+        ensures searched { IfOk result (HoldsItsSearch self.now.declarations problem.now first_fresh
+            self.now.most_symbols) }
+        // Where a refused sum system ends the search, what joins more than its partition is held.
+        ensures coarser { IfOk result (HoldsCoarserOnes self.now.declarations problem.now) }
     {
         self.sig.recall_good();
         if is_over(problem, self.limits.size) {
@@ -159,6 +174,10 @@ impl AxiomSolver for AxiomUnify<'_> {
         // When exactly two ends come, and which number is the next.
         ensures exact { IfOk result (IsExact problem.now first_fresh
             self.now.most_unifiers self.now.most_symbols) }
+        // All that the search gave is answered.
+        ensures searched { IfOk result (HoldsItsSearch self.now.declarations problem.now first_fresh
+            self.now.most_symbols) }
+        ensures coarser { IfOk result (HoldsCoarserOnes self.now.declarations problem.now) }
     {
         let solved = self.unify(alloc, problem, first_fresh)?;
         Ok(solved)

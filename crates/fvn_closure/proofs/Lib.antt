@@ -8,3 +8,4 @@ pub mod Carrying
 mod Descending
 pub mod Starting
 mod Ending
+pub mod OneMore

@@ -11,7 +11,7 @@ use Rattle.fvn_exploring.specs.Explorations.{IsExploreCause}
 use Rattle.fvn_answer.specs.Answers.{FitsEnd}
 use Rattle.fvn_answer.specs.declared.end.End.{End}
 use Rattle.fvn_answer.specs.declared.end.End.TheVariants as told
-use Rattle.fvn_cmd_unify.proofs.Solving.{associative-declared}
+use Rattle.fvn_answer.proofs.Declared.{associative-declared}
 use Rattle.fvn_cmd_words.specs.declared.reach.Reach.{Reach}
 use Rattle.fvn_cmd_exploring.specs.Searches.{setting_of, limits_of}
 use Rattle.fvn_cmd_exploring.specs.Ends.{end_told}

@@ -1,5 +1,5 @@
 -- How an answer over an exploration ends.
-use Rattle.std.specs.Prelude.{◌≡◌, ℕ, Option, Some, None}
+use Rattle.std.specs.Prelude.{ℕ, Option, Some, None}
 use Rattle.fvn_base.specs.declared.limits.TheConstants.{TERM_SYMBOLS, UNIFIERS}
 use Rattle.fvn_exploring.specs.declared.ends.ExploreEnd.{ExploreEnd}
 use Rattle.fvn_exploring.specs.declared.ends.ExploreEnd.TheVariants as explored

@@ -1,4 +1,5 @@
 -- The words of explorations in a module.
 pub mod Searches
 pub mod Ends
+pub mod Answers
 pub mod Bounds

@@ -1,10 +1,12 @@
 //! What the commands that explore share: what is searched in and how far, and how an answer over an exploration ends.
 #![tactic(auto)]
 
+mod answering;
 mod ends;
 mod loading;
 mod search;
 
+pub use answering::answer_after;
 pub use ends::{end_told, loss_after};
 pub use loading::{Loaded, load_with_rules};
 pub use search::Search;

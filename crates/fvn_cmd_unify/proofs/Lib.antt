@@ -2,7 +2,7 @@
 pub mod Flattening
 pub mod Asking
 mod Listing
-pub mod Solving
+mod Solving
 pub mod Counting
 mod Replied
 pub mod Denoted

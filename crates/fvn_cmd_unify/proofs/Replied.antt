@@ -3,7 +3,7 @@ use Rattle.std.proofs.Common.{◌≡◌, ℕ, List, length, Result, Ok, Err, IfO
 use Rattle.std.specs.Prelude.{All}
 use Rattle.fvn_terms.specs.declared.declarations.Declarations.{Declarations}
 use Rattle.fvn_forms.specs.FitsKinds.{FitsKinds}
-use Rattle.fvn_flat.specs.Laws.{AnswersToFlattenedPairs}
+use Rattle.fvn_flat.specs.Laws.{AnswersToFlattenedPairs, FlattenedPairsHaveOneAnswer}
 use Rattle.fvn_flat.specs.Bindings.{Bindings}
 use Rattle.fvn_flat.specs.declared.solver.Solved.{Solved}
 use Rattle.fvn_syntax.specs.declared.names.Names.{Names}
@@ -34,19 +34,19 @@ module _ (m : Contents) (p : Problem) (kinded : All (AreOfOneKind m.signature) p
   pub told-fits_end : (end : End) → end ≡ end_told r.end (length unifiers) → FitsEnd m.signature end
   told-fits_end end told = subst (FitsEnd m.signature) (sym (told ∙ ap (λ l. end_told r.end (length l)) are)) (solved-fits m p kinded vars r s)
 
-  pub end-of_search : AnswersToFlattenedPairs → (d : Declarations) → d ≡ m.signature → FitsKinds d → (end : End) → end ≡ end_told r.end (length unifiers) → IsEndOfSearch m p end
-  end-of_search law d signature_is fits end told = record {
+  pub end-of_search : AnswersToFlattenedPairs → FlattenedPairsHaveOneAnswer → (d : Declarations) → d ≡ m.signature → FitsKinds d → (end : End) → end ≡ end_told r.end (length unifiers) → IsEndOfSearch m p end
+  end-of_search law one_law d signature_is fits end told = record {
     found = told-found m p kinded vars r s;
-    solution = solved-solution m p kinded vars r s law (subst FitsKinds signature_is fits);
+    solution = solved-solution m p kinded vars r s law one_law (subst FitsKinds signature_is fits);
     end_is = told ∙ ap (λ l. end_told r.end (length l)) are;
   }
 
-  pub answer-told : AnswersToFlattenedPairs → EqualLinesAreInstances → (d : Declarations) → d ≡ m.signature → FitsKinds d → (lines : List Text) → AreLinesOfBindings m p unifiers lines →
+  pub answer-told : AnswersToFlattenedPairs → FlattenedPairsHaveOneAnswer → EqualLinesAreInstances → (d : Declarations) → d ≡ m.signature → FitsKinds d → (lines : List Text) → AreLinesOfBindings m p unifiers lines →
       (end : End) → end ≡ end_told r.end (length unifiers) → (text : Text) → IsAnswerText m.signature m.names lines end text → (status : Status) → status ≡ status_of_end end → IsAnswer m p status text
-  answer-told law lines_law d signature_is fits lines h end told text shown status is =
+  answer-told law one_law lines_law d signature_is fits lines h end told text shown status is =
       let e = end_told r.end (length r.unifiers) in
       let end_is : end ≡ e = told ∙ ap (λ l. end_told r.end (length l)) are in
-      let solution = solved-solution m p kinded vars r s law (subst FitsKinds signature_is fits) in
+      let solution = solved-solution m p kinded vars r s law one_law (subst FitsKinds signature_is fits) in
       let listed : AreLinesOfBindings m p r.unifiers lines = subst (λ l. AreLinesOfBindings m p l lines) are h in
       record {
         found = told-found m p kinded vars r s;

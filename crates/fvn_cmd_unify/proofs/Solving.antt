@@ -1,26 +1,24 @@
 -- What the solver's answer to the flattened pairs says of the problem.
-use Rattle.std.proofs.Common.{◌≡◌, ℕ, ◌<◌, ◌≤◌, List, map, length, refl, sym, ap, ◌∙◌, subst, inl, inr}
-use Rattle.std.specs.Prelude.{All}
-use Rattle.std.proofs.lemmas.Bool.{cases_lt}
-use Rattle.std.proofs.lemmas.List.{get_or_past, length-map}
+use Rattle.std.proofs.Common.{◌≡◌, ℕ, ◌≤◌, List, map, length, refl, sym, ap, ◌∙◌, subst}
+use Rattle.std.specs.Prelude.{All, Any}
+use Rattle.std.proofs.lemmas.List.{length-map}
 use Rattle.std.proofs.lemmas.List.Elements.{All-map, All-weaker}
 use Rattle.fvn_base.specs.declared.limits.TheConstants.{TERM_SYMBOLS, UNIFIERS}
+use Rattle.fvn_base.proofs.Membership.{contains_map}
 use Rattle.fvn_terms.specs.declared.plain.OpId.{OpId}
 use Rattle.fvn_terms.specs.declared.plain.Plain.{Plain}
-use Rattle.fvn_terms.specs.declared.declarations.OpDecl.{OpDecl}
 use Rattle.fvn_terms.specs.declared.declarations.Declarations.{Declarations}
-use Rattle.fvn_terms.specs.Signature.{axioms, unknown}
-use Rattle.fvn_terms.specs.Equality.{IsAssociative}
 use Rattle.fvn_terms.specs.Substitution.{Substitution}
 use Rattle.fvn_terms.specs.Unifiers.{IsUnifier}
+use Rattle.fvn_lindio.specs.declared.system.System.{System}
 use Rattle.fvn_terms.specs.CompleteSets.{IsCompleteSet, IsApart}
 use Rattle.fvn_terms.proofs.Instances.{shortest_unifiers}
 use Rattle.fvn_forms.specs.Flat.{FlatTerm}
 use Rattle.fvn_forms.specs.FitsKinds.{FitsKinds}
 use Rattle.fvn_flat.specs.Bindings.{BindsOnce, BindingsFit}
 use Rattle.fvn_flat.specs.Drawn.{IsDrawn}
-use Rattle.fvn_flat.specs.Laws.{AnswersToFlattenedPairs, FlattenedPairsAreGiven}
-use Rattle.fvn_flat.specs.OneAnswer.{IsCompleteFor, IsApartFor}
+use Rattle.fvn_flat.specs.Laws.{AnswersToFlattenedPairs, FlattenedPairsAreGiven, FlattenedPairsHaveOneAnswer}
+use Rattle.fvn_flat.specs.OneAnswer.{IsCompleteFor, IsApartFor, HaveOneAnswer}
 use Rattle.fvn_flat.specs.PlainPairs.{IsAnswerTo}
 use Rattle.fvn_flat.specs.Problems.{plain_pairs, flat_pairs}
 use Rattle.fvn_flat.specs.Solving.{IsGiven, Binds, IsCause, problem_of, substitution}
@@ -33,13 +31,17 @@ use Rattle.fvn_problems.specs.Problems.{AreOfOneKind, HasVariables}
 use Rattle.fvn_module.specs.Contents.{Contents}
 use Rattle.fvn_axunify.specs.Solved.{IsSolvedAs}
 use Rattle.fvn_axunify.specs.Exact.{IsExact}
+use Rattle.fvn_axunify.specs.Searched.{IsAnswered}
+use Rattle.fvn_axunify.specs.Coarser.{HoldsCoarserOnes}
 use Rattle.fvn_answer.specs.Answers.{FitsEnd}
 use Rattle.fvn_answer.specs.Asked.{HaveSorts}
-use Rattle.fvn_answer.specs.declared.end.End.TheVariants.{Complete, Unifiers}
+use Rattle.fvn_answer.specs.declared.end.End.TheVariants.{Complete, Basis, Size, Unifiers}
+use Rattle.fvn_answer.proofs.Declared.{associative-declared}
 use Rattle.fvn_cmd.specs.Causes.{HasTooMany}
 use Rattle.fvn_cmd.specs.Headline.{AreAll}
 use Rattle.fvn_cmd_unify.specs.Asked.{pairs_of, Unifies, IsInstanceOf, flattened, AreFlattened, unifiers_of}
 use Rattle.fvn_cmd_unify.specs.Ends.{IsCauseOf}
+use Rattle.fvn_cmd_unify.specs.Coarser.{HasCoarserOnes}
 use Rattle.fvn_cmd_unify.specs.Solutions.{Found, IsSolution}
 use Rattle.fvn_cmd_unify.specs.inner.Told.{end_told}
 use Rattle.fvn_cmd_unify.specs.inner.Steps.{IsSolved}
@@ -56,22 +58,16 @@ module _ (m : Contents) (p : Problem) (d : Declarations) (signature_is : d ≡ m
       let fitting : FitsKinds m.signature = subst FitsKinds signature_is fits in
       subst (λ x. IsGiven x given 0) (sym (same ∙ signature_is)) (law m.signature fitting (pairs_of p.pairs) (pairs_of-problem m.signature p.pairs kinded) given these-flattened 0 (problem-room m.signature p vars))
 
-  pub solver-answer : (own : Declarations) → own ≡ d → (most : ℕ) → most ≡ UNIFIERS → (size : ℕ) → size ≡ TERM_SYMBOLS → (r : Solved) → IsSolvedAs own given 0 most size r → IsExact given 0 most size r → IsSolved m p r
-  solver-answer own same most most_is size size_is r a exact = record {
+  pub solver-answer : (own : Declarations) → own ≡ d → (most : ℕ) → most ≡ UNIFIERS → (size : ℕ) → size ≡ TERM_SYMBOLS → (r : Solved) → IsSolvedAs own given 0 most size r → IsExact given 0 most size r → HoldsCoarserOnes own given r → IsSolved m p r
+  solver-answer own same most most_is size size_is r a exact coarser = record {
     given = given;
     flattened = these-flattened;
     answer =
         subst (λ x. IsSolvedAs m.signature given 0 UNIFIERS x r) size_is
         (subst (λ x. IsSolvedAs m.signature given 0 x size r) most_is (subst (λ x. IsSolvedAs x given 0 most size r) (same ∙ signature_is) a));
     exact = subst (λ x. IsExact given 0 UNIFIERS x r) size_is (subst (λ x. IsExact given 0 x size r) most_is exact);
+    coarser = subst (λ x. HoldsCoarserOnes x given r) (same ∙ signature_is) coarser;
   }
-
--- an associative operator is declared
-pub associative-declared : (d : Declarations) (f : OpId) → IsAssociative (axioms d f) → f.0 < length d.ops
-associative-declared d f a = elim (cases_lt f.0 (length d.ops)) [
-  | inl low ↦ low
-  | inr high ↦ absurd (subst (λ (o : OpDecl). IsAssociative o.axioms) (get_or_past d.ops f.0 unknown high) a)
-]
 
 -- where it is told that all are found, they are
 told-complete : (e : SolveEnd) (count n : ℕ) → end_told e count ≡ Complete n → e ≡ AllFound
@@ -86,6 +82,13 @@ told-full AllFound count h = cc
 told-full (NoBasis f system) count h = cc
 told-full Full count h = refl
 told-full (TooLarge cause) count h = cc
+
+-- a sum system is told where the solver met it
+told-basis : (e : SolveEnd) (count : ℕ) (f : OpId) → end_told e count ≡ Basis f → (system : System) × (e ≡ NoBasis f system)
+told-basis AllFound count f h = absurd (let q : Complete count ≡ Basis f = h in cc)
+told-basis (NoBasis g system) count f h = (system, ap (λ x. NoBasis x system) (let q : Basis g ≡ Basis f = h in cc))
+told-basis Full count f h = absurd (let q : Unifiers UNIFIERS ≡ Basis f = h in cc)
+told-basis (TooLarge cause) count f h = absurd (let q : Size TERM_SYMBOLS ≡ Basis f = h in cc)
 
 module _ (m : Contents) (p : Problem) (kinded : All (AreOfOneKind m.signature) p.pairs) (vars : HasVariables m.signature p) (r : Solved) (s : IsSolved m p r) where
   abbrev values : List Substitution
@@ -149,13 +152,34 @@ module _ (m : Contents) (p : Problem) (kinded : All (AreOfOneKind m.signature) p
     shortest = shortest_unifiers m.signature p.vars (pairs_of p.pairs) values complete apart;
   }
 
+  module _ (one : HaveOneAnswer m.signature (pairs_of p.pairs) (problem_of s.given)) where
+    -- what the solver's answer holds is an instance of one of the values
+    answered-one : (u : Substitution) → IsAnswered m.signature s.given r u → Any (IsInstanceOf m p u) values
+    answered-one u h =
+        let c = contains_map substitution r.unifiers h.1 (h.0, h.2, h.3) in
+        (c.0, substitution h.1, c.1, c.2, instance-on_vars m.signature p vars u (substitution h.1) ((one.instances u (substitution h.1)).1 h.4))
+
+    coarser-ones : (f : OpId) → end_told r.end (length r.unifiers) ≡ Basis f → HasCoarserOnes m p values f
+    coarser-ones f e =
+        let t = told-basis r.end (length r.unifiers) f e in
+        let h = s.coarser f t.0 t.1 in
+        record {
+          given = s.given;
+          is_given = s.flattened;
+          system = t.0;
+          at = h.at;
+          held = λ u unifies joins some. answered-one u (h.held u ((one.unifiers u).0 unifies) joins some);
+        }
+
   -- what is told of what was found
   abbrev pub told-found : Found
   told-found = record { values = values; end = end_told r.end (length r.unifiers) }
 
   -- the answer to the flattened pairs is one to the problem
-  pub solved-solution : AnswersToFlattenedPairs → FitsKinds m.signature → IsSolution m p told-found
-  solved-solution law fits =
+  pub solved-solution : AnswersToFlattenedPairs → FlattenedPairsHaveOneAnswer → FitsKinds m.signature → IsSolution m p told-found
+  solved-solution law one_law fits =
+      let P : List (FlatTerm × FlatTerm) → Type 0 = λ pairs. HaveOneAnswer m.signature (pairs_of p.pairs) (plain_pairs pairs) in
+      let one = subst P (sym s.flattened) (one_law m.signature fits (pairs_of p.pairs) (pairs_of-problem m.signature p.pairs kinded)) in
       let a : IsAnswerTo m.signature (pairs_of p.pairs) values (r.end ≡ AllFound) =
       law m.signature fits (pairs_of p.pairs) (pairs_of-problem m.signature p.pairs kinded) s.given s.flattened r s.answer.sound s.answer.apart s.answer.complete in
       let apart = apart-on_vars a.apart in
@@ -172,4 +196,5 @@ module _ (m : Contents) (p : Problem) (kinded : All (AreOfOneKind m.signature) p
           λ e. sym count-is ∙ s.exact.unifiers.full.0 (told-full r.end (length r.unifiers) e),
           λ e. ap (λ x. end_told x (length r.unifiers)) (s.exact.unifiers.full.1 (count-is ∙ e)),
         );
+        coarser = coarser-ones one;
       }

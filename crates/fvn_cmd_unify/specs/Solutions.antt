@@ -2,6 +2,7 @@
 use Rattle.std.specs.Prelude.{◌≡◌, ◌≤◌, ◌↔◌, List, length, All}
 use Rattle.fvn_base.specs.declared.limits.TheConstants.{UNIFIERS}
 use Rattle.std.specs.List.{AllZip}
+use Rattle.fvn_terms.specs.declared.plain.OpId.{OpId}
 use Rattle.fvn_terms.specs.Substitution.{Substitution}
 use Rattle.fvn_flat.specs.Bindings.{Bindings}
 use Rattle.fvn_flat.specs.Drawn.{IsDrawn}
@@ -13,10 +14,11 @@ use Rattle.fvn_answer.specs.Lines.{HasNoLineFeed, IsTextOf, values as text_of_va
 use Rattle.fvn_answer.specs.Denoting.{Reads}
 use Rattle.fvn_answer.specs.Answers.{IsAnswerText}
 use Rattle.fvn_answer.specs.declared.end.End.{End}
-use Rattle.fvn_answer.specs.declared.end.End.TheVariants.{Complete, Unifiers}
+use Rattle.fvn_answer.specs.declared.end.End.TheVariants.{Complete, Basis, Unifiers}
 use Rattle.fvn_cmd.specs.Headline.{IsHeadline}
 use Rattle.fvn_cmd_unify.specs.Asked.{flattened, unifiers_of}
 use Rattle.fvn_cmd_unify.specs.Ends.{IsCauseOf}
+use Rattle.fvn_cmd_unify.specs.Coarser.{HasCoarserOnes}
 
 -- what was found: substitutions, and the end of the search for them
 pub record Found : Type 0 where
@@ -36,6 +38,8 @@ module _ (m : Contents) (p : Problem) where
     -- the limit of unifiers is not passed, and it is told exactly where it is reached
     pub few : length found.values ≤ UNIFIERS
     pub full : (found.end ≡ Unifiers UNIFIERS) ↔ (length found.values ≡ UNIFIERS)
+    -- at `bound basis f` what joins more than the partition at which the search ended is an instance of one of these
+    pub coarser : (f : OpId) → found.end ≡ Basis f → HasCoarserOnes m p found.values f
 
   -- the line denotes the substitution, modulo the axioms and up to new names; it is the text of the values of some bindings
   -- that stand for it, under a numbering of their variables; and it is one line

@@ -13,7 +13,9 @@ use fvn_answer::{answer_text, equal_lines_are_instances};
 use fvn_axunify::{AxiomUnify, SolveLimits};
 use fvn_base::limits::{TERM_SYMBOLS, UNIFIERS};
 use fvn_cmd::{Answer, Text, refuse_module, refuse_problem};
-use fvn_flat::{Solved, answers_to_flattened_pairs, flattened_pairs_are_given};
+use fvn_flat::{
+    Solved, answers_to_flattened_pairs, flattened_pairs_are_given, flattened_pairs_have_one_answer,
+};
 use fvn_module::Module;
 use fvn_module_loading::load;
 use fvn_problems::{Problem, problem_names_are_words, problem_names_differ, read_problem};
@@ -51,6 +53,7 @@ fn answer(alloc: Global, declared: &Module, problem: &Problem) -> Result<Answer,
     ensures { IfOk result (λ a. IsAnswer declared.now problem.now a.status (bytes_of a.text)) }
 {
     answers_to_flattened_pairs();
+    flattened_pairs_have_one_answer();
     equal_lines_are_instances();
     declared.signature().recall_good();
     let found = solved(alloc, declared, problem)?;

@@ -7,7 +7,7 @@ ghost use Rattle.fvn_cmd_unify.specs.Solutions.{IsEndOfSearch};
 use crate::ends::end_told;
 use crate::replying::solved;
 use fvn_answer::End;
-use fvn_flat::answers_to_flattened_pairs;
+use fvn_flat::{answers_to_flattened_pairs, flattened_pairs_have_one_answer};
 use fvn_module::Module;
 use fvn_problems::Problem;
 use fvn_terms::NoMemory;
@@ -21,6 +21,7 @@ pub fn end_of_search(alloc: Global, declared: &Module, problem: &Problem) -> Res
     ensures fits { IfOk result (FitsEnd declared.now.signature) }
 {
     answers_to_flattened_pairs();
+    flattened_pairs_have_one_answer();
     declared.signature().recall_good();
     let found = solved(alloc, declared, problem)?;
     let unifiers = found.unifiers.as_slice();

@@ -1,5 +1,6 @@
 -- How the steps of `variants` make its reply.
-use Rattle.std.proofs.Common.{◌≡◌, ℕ, List, [], ◌∷◌, length, Option, refl, sym, ap, ◌∙◌, subst, inl, inr, arith}
+use Rattle.std.proofs.Common.{◌≡◌, ℕ, List, [], ◌∷◌, length, refl, sym, ap, ◌∙◌, subst, inl, inr, arith}
+use Rattle.std.proofs.lemmas.Slice.Zip.{AllZip-long}
 use Rattle.fvn_terms.specs.declared.declarations.Declarations.{Declarations}
 use Rattle.fvn_terms.specs.Laws.{RewritingIsLawful}
 use Rattle.fvn_terms.specs.Plain.{term}
@@ -16,14 +17,12 @@ use Rattle.fvn_problems.specs.Queries.{IsQuery, RefusesQuery, HasVariables}
 use Rattle.fvn_problems.specs.Laws.{QueryNamesAreWords, QueryNamesDiffer}
 use Rattle.fvn_terms.specs.Signature.{IsTerm}
 use Rattle.fvn_module.specs.Contents.{Contents}
-use Rattle.fvn_module_loading.specs.Losses.{IsLossOf}
 use Rattle.fvn_cover.specs.declared.variant.Variant.{Variant}
 use Rattle.fvn_exploring.specs.declared.ends.Explored.{Explored}
-use Rattle.fvn_exploring.specs.declared.ends.ExploreEnd.TheVariants.{Complete}
+use Rattle.fvn_closure.specs.Closing.{reached_of}
 use Rattle.fvn_answer.specs.Asked.{AreAsked}
 use Rattle.fvn_answer.specs.Answers.{IsAnswerText}
 use Rattle.fvn_answer.specs.Laws.{EqualLinesCover}
-use Rattle.fvn_answer.specs.declared.end.End.{End}
 use Rattle.fvn_cmd.specs.declared.status.Status.{Status}
 use Rattle.fvn_cmd.specs.declared.status.Status.TheVariants.{ProblemRefused}
 use Rattle.fvn_cmd.specs.Refusing.{IsProblemRefusalLine}
@@ -33,7 +32,8 @@ use Rattle.fvn_cmd_words.specs.declared.reach.Reach.{Reach}
 use Rattle.fvn_cmd_exploring.specs.Searches.{IsSearched}
 use Rattle.fvn_cmd_variants.specs.Asked.{flattened}
 use Rattle.fvn_cmd_exploring.specs.Ends.{end_told}
-use Rattle.fvn_cmd_variants.specs.Solutions.{Found}
+use Rattle.fvn_cmd_exploring.specs.Answers.{IsAnswerAfter}
+use Rattle.fvn_cmd_variants.specs.Solutions.{Found, end_of, IsLineOf}
 use Rattle.fvn_cmd_variants.specs.Replies.{variants_words, IsAnswer, IsVariantsAnswer}
 use Rattle.fvn_cmd_variants.specs.inner.Steps.{IsStartOf, IsTermIn, AreLinesOfVariants, RepliesIn}
 use Rattle.fvn_cmd_variants.proofs.Headline.{headline, finite}
@@ -50,26 +50,24 @@ module _ (m : Contents) (t : Query) (reach : Reach) (start : List FlatTerm) (fro
   pub searched_flat : (x : Explored) → IsSearched m reach start x → IsSearched m reach (flattened m t ∷ []) x
   searched_flat x s = subst (λ l. IsSearched m reach l x) from.is s
 
-  pub answer-told : RewritingIsLawful → EqualLinesCover → IsGood m.signature → IsCompleted m.signature → HasVariables m.signature t → (x : Explored) → IsSearched m reach start x → (loss : Option ℕ) → (x.end ≡ Complete → IsLossOf m loss) →
-      (variants : List Variant) → variants ≡ x.variants → (lines : List Text) → AreLinesOfVariants m t variants lines → (end : End) → end ≡ end_told reach x.end loss (length variants) → (text : Text) → IsAnswerText m.signature m.names lines end text →
-      (status : Status) → status ≡ status_of_end end → IsAnswer m t reach status text
-  answer-told rewriting law good completed vars x s loss loss_is variants are lines h end told text shown status is =
-      let f : Found = record { explored = x; loss = loss } in
+  pub answer-told : RewritingIsLawful → EqualLinesCover → IsGood m.signature → IsCompleted m.signature → HasVariables m.signature t → (x : Explored) → IsSearched m reach start x →
+      (variants : List Variant) → variants ≡ x.variants → (lines : List Text) → AreLinesOfVariants m t variants lines → (status : Status) (text : List ℕ) → IsAnswerAfter m reach x.end lines status text → IsAnswer m t reach status text
+  answer-told rewriting law good completed vars x s variants are lines h status text a =
+      let f : Found = record { explored = x; loss = a.loss } in
       let flat = searched_flat x s in
       let promised = headline m t vars (rewriting m.signature (equations_of m.equations)) from.equal reach good completed from.fits x flat f refl in
-      let end_is : end ≡ end_told reach x.end loss (length x.variants) = told ∙ ap (λ l. end_told reach x.end loss (length l)) are in
+      let listed : AreLinesOfVariants m t x.variants lines = subst (λ l. AreLinesOfVariants m t l lines) are h in
+      let end_is : end_told reach x.end a.loss (length lines) ≡ end_of reach f = ap (λ n. end_told reach x.end a.loss n) (AllZip-long (λ v line. IsLineOf m t (reached_of v) line) x.variants lines listed) in
       record {
         found = f;
         solution = record {
           explored = flat.explored;
           headline = promised;
           finite = finite m t vars (rewriting m.signature (equations_of m.equations)) from.equal reach good completed from.fits x flat;
-          loss_is = loss_is;
+          loss_is = a.loss_is;
         };
-        shown =
-            shown-lines m t law reach f lines (subst (λ l. AreLinesOfVariants m t l lines) are h) promised.apart text
-            (subst (λ e. IsAnswerText m.signature m.names lines e text) end_is shown);
-        status_is = is ∙ ap status_of_end end_is;
+        shown = shown-lines m t law reach f lines listed promised.apart text (subst (λ e. IsAnswerText m.signature m.names lines e text) end_is a.shown);
+        status_is = a.status_is ∙ ap status_of_end end_is;
       }
 
 module _ (m : Contents) (d : Declarations) (names : Names) (signature_is : d ≡ m.signature) (names_are : names ≡ m.names) (reach : Reach) where

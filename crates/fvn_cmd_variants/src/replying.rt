@@ -9,10 +9,9 @@ ghost use Rattle.fvn_cmd_variants.specs.inner.Steps.{IsStartOf, IsTermIn, Replie
 
 use crate::lines::lines_of;
 use crate::searching::searched;
-use fvn_answer::{answer_text, equal_lines_cover};
-use fvn_cmd::{Answer, Text, refuse_module, refuse_problem};
-use fvn_cmd_exploring::{Search, end_told, load_with_rules, loss_after};
-use fvn_cmd_unify::status_of_end;
+use fvn_answer::equal_lines_cover;
+use fvn_cmd::{Answer, refuse_module, refuse_problem};
+use fvn_cmd_exploring::{Search, answer_after, load_with_rules};
 use fvn_cmd_words::Reach;
 use fvn_cover::Gate;
 use fvn_flat::{Flat, flatten};
@@ -54,15 +53,10 @@ fn answer<R: Threads + Sync, G: Gate>(
     signature.recall_completed();
     let start = start_of(search.alloc, signature, &query.term)?;
     let x = searched(rt, gate, search, start.as_slice())?;
-    let loss = loss_after(search.alloc, declared, &x.end)?;
     let variants = x.variants.as_slice();
     let lines = lines_of(search.alloc, declared, query, variants)?;
-    let end = end_told(search.alloc, search.reach, &x.end, loss, variants.len())?;
-    let text = answer_text(search.alloc, declared, lines, &end)?;
-    Ok(Answer {
-        status: status_of_end(&end),
-        text: Text::Made(text),
-    })
+    let reply = answer_after(search, &x.end, lines)?;
+    Ok(reply)
 }
 
 // What is replied to the word of a term, where the module is loaded.

@@ -16,7 +16,7 @@ use Rattle.fvn_vunify.specs.Causes.{IsPairsCause}
 use Rattle.fvn_vunify.specs.Sides.{sides_in_turn}
 use Rattle.fvn_vunify.specs.Solved.{IsSolvedModulo}
 use Rattle.fvn_answer.specs.Answers.{FitsEnd}
-use Rattle.fvn_cmd_unify.proofs.Solving.{associative-declared}
+use Rattle.fvn_answer.proofs.Declared.{associative-declared}
 use Rattle.fvn_cmd_words.specs.declared.reach.Reach.{Reach}
 use Rattle.fvn_cmd_exploring.specs.Searches.{setting_of, limits_of, AreExplored}
 use Rattle.fvn_cmd_exploring.specs.Ends.{end_told}

@@ -1,9 +1,10 @@
 -- How the steps of `vunify` make its reply.
-use Rattle.std.proofs.Common.{◌≡◌, ◌≤◌, ℕ, List, [], ◌∷◌, map, length, Option, refl, sym, ap, ◌∙◌, subst, inl, inr, arith}
+use Rattle.std.proofs.Common.{◌≡◌, ◌≤◌, ℕ, List, [], ◌∷◌, map, length, refl, sym, ap, ◌∙◌, subst, inl, inr, arith}
 use Rattle.std.specs.Prelude.{All}
 use Rattle.std.specs.List.{AllZip}
 use Rattle.std.proofs.lemmas.List.{length-map}
 use Rattle.std.proofs.lemmas.List.Elements.{All-weaker}
+use Rattle.std.proofs.lemmas.Slice.Zip.{AllZip-long}
 use Rattle.fvn_terms.specs.declared.plain.Plain.{Plain}
 use Rattle.fvn_terms.specs.declared.declarations.Declarations.{Declarations}
 use Rattle.fvn_terms.specs.CompleteSets.{IsApart}
@@ -27,14 +28,11 @@ use Rattle.fvn_problems.specs.Laws.{ProblemNamesAreWords, ProblemNamesDiffer}
 use Rattle.fvn_problems.specs.Scopes.{guarded}
 use Rattle.fvn_problems.specs.Spelling.{RawPair, pairs_in}
 use Rattle.fvn_module.specs.Contents.{Contents}
-use Rattle.fvn_module_loading.specs.Losses.{IsLossOf}
-use Rattle.fvn_exploring.specs.declared.ends.ExploreEnd.TheVariants.{Complete}
 use Rattle.fvn_vunify.specs.declared.solved.SolvedModulo.{SolvedModulo}
 use Rattle.fvn_vunify.specs.Solutions.{IsIrreducibleUnifier}
 use Rattle.fvn_answer.specs.Asked.{HaveSorts}
 use Rattle.fvn_answer.specs.Answers.{IsAnswerText}
 use Rattle.fvn_answer.specs.Laws.{EqualLinesAreInstances}
-use Rattle.fvn_answer.specs.declared.end.End.{End}
 use Rattle.fvn_cmd.specs.declared.status.Status.{Status}
 use Rattle.fvn_cmd.specs.declared.status.Status.TheVariants.{ProblemRefused}
 use Rattle.fvn_cmd.specs.Refusing.{IsProblemRefusalLine}
@@ -49,6 +47,7 @@ use Rattle.fvn_cmd_unify.proofs.Flattening.{pairs_of-problem}
 use Rattle.fvn_cmd_words.specs.declared.reach.Reach.{Reach}
 use Rattle.fvn_cmd_exploring.specs.Searches.{setting_of}
 use Rattle.fvn_cmd_exploring.specs.Ends.{end_told}
+use Rattle.fvn_cmd_exploring.specs.Answers.{IsAnswerAfter}
 use Rattle.fvn_cmd_vunify.specs.Asked.{flattened_pairs}
 use Rattle.fvn_cmd_vunify.specs.Solutions.{Found, values, end_of, Shows}
 use Rattle.fvn_cmd_vunify.specs.Replies.{IsAnswer, IsVunifyAnswer}
@@ -118,17 +117,17 @@ module _ (m : Contents) (p : Problem) where
         All-weaker (λ (b : Bindings). IsIrreducibleUnifier (setting_of m reach) (plain_pairs pairs) (substitution b)) (HaveSorts m.signature p.vars) (λ b h x c. h.kept.unifier.0.1 x)
         r.unifiers s.solved.sound
 
-    pub answer-told : RewritingIsLawful → FlattenedPairsAreGiven → IsLawful → EqualLinesAreInstances → IsGood m.signature → IsCompleted m.signature → AreAdmissible m.signature (equations_of m.equations) → (loss : Option ℕ) → (r.end ≡ Complete → IsLossOf m loss) →
-        (unifiers : List Bindings) → unifiers ≡ r.unifiers → (lines : List Text) → AreLinesFor m p unifiers lines → (end : End) → end ≡ end_told reach r.end loss (length unifiers) → (text : Text) → IsAnswerText m.signature m.names lines end text →
-        (status : Status) → status ≡ status_of_end end → IsAnswer m p reach status text
-    answer-told rewriting given_law lawful law good completed admissible loss loss_is unifiers are lines h end told text shown status is_status =
-        let f : Found = record { explored = s.explored; solved = r; loss = loss } in
+    pub answer-told : RewritingIsLawful → FlattenedPairsAreGiven → IsLawful → EqualLinesAreInstances → IsGood m.signature → IsCompleted m.signature → AreAdmissible m.signature (equations_of m.equations) →
+        (unifiers : List Bindings) → unifiers ≡ r.unifiers → (lines : List Text) → AreLinesFor m p unifiers lines → (status : Status) (text : List ℕ) → IsAnswerAfter m reach r.end lines status text → IsAnswer m p reach status text
+    answer-told rewriting given_law lawful law good completed admissible unifiers are lines h status text a =
         let here = solved_flat in
         let given : Pairs = record { pairs = flattened_pairs m p } in
-        let promised = headline m p reach is.kinded is.vars lawful good completed admissible here.explored r here.solved (record { explored = here.explored; solved = r; loss = loss }) refl loss_is in
-        let end_is : end ≡ end_told reach r.end loss (length r.unifiers) = told ∙ ap (λ l. end_told reach r.end loss (length l)) are in
+        let f : Found = record { explored = here.explored; solved = r; loss = a.loss } in
+        let promised = headline m p reach is.kinded is.vars lawful good completed admissible here.explored r here.solved f refl a.loss_is in
+        let listed : AreLinesFor m p r.unifiers lines = subst (λ l. AreLinesFor m p l lines) are h in
+        let end_is : end_told reach r.end a.loss (length lines) ≡ end_of reach f = ap (λ n. end_told reach r.end a.loss n) (AllZip-long (λ s line. IsLineOf m p (substitution s) line) r.unifiers lines listed) in
         record {
-          found = record { explored = here.explored; solved = r; loss = loss };
+          found = f;
           solution = record {
             explored = here.exploration;
             solved = here.solved;
@@ -136,12 +135,10 @@ module _ (m : Contents) (p : Problem) where
             finite =
                 finite m p reach is.kinded is.vars lawful good (rewriting m.signature (equations_of m.equations)) completed
                 (turn_fits m.signature (flattened_pairs m p) (sides m p is given_law good given refl).fit) here.explored here.exploration here.laws;
-            loss_is = loss_is;
+            loss_is = a.loss_is;
           };
-          shown =
-              shown-lines law reach (record { explored = here.explored; solved = r; loss = loss }) lines (subst (λ l. AreLinesFor m p l lines) are h) promised.apart text
-              (subst (λ e. IsAnswerText m.signature m.names lines e text) end_is shown);
-          status_is = is_status ∙ ap status_of_end end_is;
+          shown = shown-lines law reach f lines listed promised.apart text (subst (λ e. IsAnswerText m.signature m.names lines e text) end_is a.shown);
+          status_is = a.status_is ∙ ap status_of_end end_is;
         }
 
 module _ (m : Contents) (d : Declarations) (names : Names) (signature_is : d ≡ m.signature) (names_are : names ≡ m.names) (reach : Reach) where

@@ -6,10 +6,10 @@ ghost use Rattle.fvn_cmd_vunify.specs.Replies.{IsAnswer, IsVunifyReply};
 ghost use Rattle.fvn_cmd_vunify.specs.inner.Steps.{IsProblemIn, RepliesIn};
 
 use crate::solving::solved;
-use fvn_answer::{answer_text, equal_lines_are_instances};
-use fvn_cmd::{Answer, Text, refuse_module, refuse_problem};
-use fvn_cmd_exploring::{Search, end_told, load_with_rules, loss_after};
-use fvn_cmd_unify::{flattened, lines_of, status_of_end};
+use fvn_answer::equal_lines_are_instances;
+use fvn_cmd::{Answer, refuse_module, refuse_problem};
+use fvn_cmd_exploring::{Search, answer_after, load_with_rules};
+use fvn_cmd_unify::{flattened, lines_of};
 use fvn_cmd_words::Reach;
 use fvn_cover::Gate;
 use fvn_flat::flattened_pairs_are_given;
@@ -47,15 +47,10 @@ fn answer<R: Threads + Sync, G: Gate>(
     signature.recall_completed();
     let given = flattened(search.alloc, signature, problem.pairs.as_slice())?;
     let r = solved(rt, gate, search, given)?;
-    let loss = loss_after(search.alloc, declared, &r.end)?;
     let unifiers = r.unifiers.as_slice();
     let lines = lines_of(search.alloc, declared, problem, unifiers)?;
-    let end = end_told(search.alloc, search.reach, &r.end, loss, unifiers.len())?;
-    let text = answer_text(search.alloc, declared, lines, &end)?;
-    Ok(Answer {
-        status: status_of_end(&end),
-        text: Text::Made(text),
-    })
+    let reply = answer_after(search, &r.end, lines)?;
+    Ok(reply)
 }
 
 // What is replied to the word of a problem, where the module is loaded.

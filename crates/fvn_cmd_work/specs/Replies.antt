@@ -6,7 +6,6 @@ use Rattle.fvn_answer.specs.Answers.{IsAnswerText}
 use Rattle.fvn_answer.specs.declared.end.End.{End}
 use Rattle.fvn_cmd.specs.declared.status.Status.{Status}
 use Rattle.fvn_cmd.specs.Asking.{Word}
-use Rattle.fvn_cmd.specs.Refusing.{IsReply}
 use Rattle.fvn_cmd_unify.specs.Ends.{status_of_end}
 use Rattle.fvn_cmd_unify.specs.Solutions.{Found, IsSolution}
 use Rattle.fvn_cmd_unify.specs.Replies.{unify_words, IsToBeUnified}
@@ -27,11 +26,7 @@ pub record IsCount (m : Contents) (p : Problem) (status : Status) (text : List �
 abbrev pub work_words : ℕ → List Word
 work_words n = unify_words (work_problem n)
 
--- this status and this text answer what is asked
+-- this status and this text answer what the number asks; what it asks is read as it is from other texts, and not refused
 abbrev pub IsWorkAnswer : ℕ → Status → List ℕ → Type 0
 IsWorkAnswer n status text =
     (m : Contents) × (p : Problem) × (IsToBeUnified work_module (work_problem n) m p × IsCount m p status text)
-
--- this status with this text replies to `work` and a number
-abbrev pub IsWorkReply : ℕ → Status → List ℕ → Type 0
-IsWorkReply n = IsReply work_module (work_words n) (IsWorkAnswer n)

@@ -5,11 +5,11 @@ ghost use Rattle.fvn_module_loading.specs.Loading.{IsLoaded};
 ghost use Rattle.fvn_cmd.specs.Texts.{bytes_of};
 ghost use Rattle.fvn_cmd_words.specs.declared.limits.TheConstants.{LEAST_WORK, MOST_WORK};
 ghost use Rattle.fvn_cmd_work.specs.Made.{work_module};
-ghost use Rattle.fvn_cmd_work.specs.Replies.{IsCount, IsWorkReply};
+ghost use Rattle.fvn_cmd_work.specs.Replies.{IsCount, IsWorkAnswer};
 
 use crate::texts::{module_text, problem_text};
 use fvn_answer::answer_text;
-use fvn_cmd::{Answer, Text, refuse_module, refuse_problem};
+use fvn_cmd::{Answer, Text};
 use fvn_cmd_unify::{end_of_search, status_of_end};
 use fvn_module::Module;
 use fvn_module_loading::load;
@@ -37,7 +37,7 @@ fn reply_in(alloc: Global, declared: &Module, n: u64) -> Result<Answer, NoMemory
     requires loaded { IsLoaded work_module declared.now }
     requires least { LEAST_WORK ≤ n }
     requires most { n ≤ MOST_WORK }
-    ensures { IfOk result (λ a. IsWorkReply n a.status (bytes_of a.text)) }
+    ensures { IfOk result (λ a. IsWorkAnswer n a.status (bytes_of a.text)) }
 {
     declared.recall_readable();
     match read_problem(
@@ -46,25 +46,25 @@ fn reply_in(alloc: Global, declared: &Module, n: u64) -> Result<Answer, NoMemory
         declared.names(),
         problem_text(n),
     ) {
-        Err(fault) => {
-            let reply = refuse_problem(alloc, fault)?;
-            Ok(reply)
-        }
         Ok(problem) => {
             let reply = count(alloc, declared, &problem)?;
             Ok(reply)
         }
+        Err(_want_of_memory) => Err(NoMemory),
     }
 }
 
-/// What is replied to a number: how many unifiers a sum of two variables and one of so many have.
+/// How many unifiers a sum of two variables and one of so many have.
+///
+/// The module and the problem are texts of the program, so that nothing but want of memory keeps them from being read:
+/// a refusal is no answer.
 pub fn work_reply(alloc: Global, n: u64) -> Result<Answer, NoMemory>
     requires least { LEAST_WORK ≤ n }
     requires most { n ≤ MOST_WORK }
-    ensures { IfOk result (λ a. IsWorkReply n a.status (bytes_of a.text)) }
+    ensures { IfOk result (λ a. IsWorkAnswer n a.status (bytes_of a.text)) }
 {
     match load(alloc, module_text()) {
         Ok(declared) => reply_in(alloc, &declared, n),
-        Err(fault) => refuse_module(alloc, &fault),
+        Err(_want_of_memory) => Err(NoMemory),
     }
 }

@@ -123,7 +123,7 @@ module _ (d : Declarations) where
   suits_push (q ∷ ps) (t ∷ ss) o s h p = (h.0, suits_push ps ss o s h.1 p)
 
   -- what is known of a shape of this kind
-  abbrev IsFitting : Shape → SortId → Type 0
+  abbrev pub IsFitting : Shape → SortId → Type 0
   IsFitting s k = (kind d s.sort ≡ k) × HasConstantSort d s
 
   fitting_kinds : (shapes : List Shape) (ks : List SortId) → AllZip IsFitting shapes ks → map (kind d) (sorts_of shapes) ≡ ks
@@ -315,7 +315,7 @@ module _ (d : Declarations) where
     -- shapes of terms under a choice keep their kinds
     module _ (filled : Var → Shape) (allowed : AreAllowed d filled) where
       mutual
-        fitting : (t : Term) (k : SortId) → HasKind d t k → IsFitting (shape_in d filled t) k
+        pub fitting : (t : Term) (k : SortId) → HasKind d t k → IsFitting (shape_in d filled t) k
         fitting (var x) k h = (AtOrBelow-one_kind d good.kinded (allowed x).below ∙ h.1, (allowed x).constant)
         fitting (app f ts) k h = over_fitting f (shapes_in d filled ts) h.rank k h.listed h.result (fitting_all ts (map (kind d) h.rank.args) h.args)
 
@@ -347,14 +347,14 @@ module _ (d : Declarations) (unchosen : List (Var × List Shape)) (env filled : 
       subst (Suits d o) (is ∙ sym kept) p
 
   -- and one that is not
-  pub offered_suits : (shapes : List Shape) (i : Bool) (low : Option SortId) → Fills d unchosen env filled → offered unchosen x ≡ Some shapes →
-      i ≡ list_any (λ (o : Shape). is_constant_root o.root) shapes → ((o : Shape) → Contains shapes o → IsLow d low o.sort) →
-      Suits d (record { variable = true; identity = i; low = low; high = x.sort }) (filled x)
-  offered_suits shapes i low h some p q =
+  pub offered_suits : (shapes : List Shape) (i : Bool) (low : Option SortId) (high : SortId) → Fills d unchosen env filled → offered unchosen x ≡ Some shapes →
+      i ≡ list_any (λ (o : Shape). is_constant_root o.root) shapes → ((o : Shape) → Contains shapes o → IsLow d low o.sort) → ((o : Shape) → Contains shapes o → AtOrBelow d o.sort x.sort → AtOrBelow d o.sort high) →
+      Suits d (record { variable = true; identity = i; low = low; high = high }) (filled x)
+  offered_suits shapes i low high h some p q r =
       let c : Contains shapes (filled x) = subst (λ c. MatchOption c (filled x ≡ env x) (λ shapes. Contains shapes (filled x))) some (h.each x) in
       record {
         variable = λ e. refl;
         identity = λ e w is. p ∙ any_from (λ (o : Shape). is_constant_root o.root) shapes (filled x) c (ap is_constant_root is);
         low = q (filled x) c;
-        high = (h.allowed x).below;
+        high = r (filled x) c (h.allowed x).below;
       }

@@ -126,10 +126,10 @@ module _ (first second : Term) where
   both_is : variables_of_both first second ≡ distinct_variables_of pair
   both_is = ap (λ l. fold with_variable (distinct_variables_of first) l) (sym (append-nil (variables second))) ∙ sym (fold-append with_variable [] (variables first) (variables second ++ []))
 
-  both_listed : (x : Var) → Occurs x second → Contains (variables_of_both first second) x
+  pub both_listed : (x : Var) → Occurs x second → Contains (variables_of_both first second) x
   both_listed x o = subst (λ l. Contains l x) (sym both_is) (distinct_listed pair x (inr (inl o)))
 
-  both_occur : ((x : Var) → Occurs x first → Occurs x second) → (x : Var) → Contains (variables_of_both first second) x → Occurs x second
+  pub both_occur : ((x : Var) → Occurs x first → Occurs x second) → (x : Var) → Contains (variables_of_both first second) x → Occurs x second
   both_occur within x c = go (distinct_occurs pair x (subst (λ l. Contains l x) both_is c)) where
     go : Occurs x pair → Occurs x second
     go (inl o) = within x o

@@ -1,11 +1,10 @@
 -- Choices of which nothing that is sought can come.
-use Rattle.std.proofs.Common.{◌≡◌, ◌<◌, length, get_or, ℕ, zero, suc, Bool, true, false, not, IsTrue, List, [], ◌∷◌, map, drop, Option, Some, None, refl, sym, ap, ◌∙◌, subst, inl, inr}
-use Rattle.std.specs.Prelude.{if◌then◌else◌, MatchOption}
+use Rattle.std.proofs.Common.{◌≡◌, ◌⊎◌, ◌<◌, length, get_or, ℕ, zero, suc, Bool, true, false, not, IsTrue, List, [], ◌∷◌, map, drop, Option, Some, None, refl, sym, ap, ◌∙◌, subst, inl, inr}
+use Rattle.std.specs.Prelude.{if◌then◌else◌, fold, MatchOption, ◌&&◌}
 use Rattle.std.specs.List.{Contains}
-use Rattle.std.proofs.lemmas.Bool.{true≢false, false≢true}
+use Rattle.std.proofs.lemmas.Bool.{true≢false, false≢true, or_parts}
 use Rattle.std.proofs.lemmas.List.Elements.{Contains-append_cases, Contains-get_or}
-use Rattle.fvn_base.proofs.Membership.{contains_here, contains_later, contains_cases, contains_none, map_contains}
-use Rattle.fvn_base.proofs.Options.{Some-injective}
+use Rattle.fvn_base.proofs.Membership.{contains_here, contains_later, contains_cases, map_contains}
 use Rattle.fvn_terms.specs.declared.plain.Var.{Var}
 use Rattle.fvn_terms.specs.declared.plain.OpId.{OpId}
 use Rattle.fvn_terms.specs.declared.plain.SortId.{SortId}
@@ -15,23 +14,26 @@ use Rattle.fvn_terms.specs.Substitution.{same_var}
 use Rattle.fvn_terms.specs.Signature.{AtOrBelow, same}
 use Rattle.fvn_forms.specs.Good.{IsGood}
 use Rattle.fvn_forms.proofs.SortOrder.{AtOrBelow-trans}
-use Rattle.fvn_forms.proofs.SortTests.{at_or_below-complete}
+use Rattle.fvn_forms.specs.SortOrder.{at_or_below}
+use Rattle.fvn_forms.proofs.SortTests.{at_or_below-true, at_or_below-complete}
 use Rattle.fvn_signature.specs.Queries.{IsCompleted}
-use Rattle.fvn_flat.proofs.Binding.{same_var_is}
+use Rattle.fvn_flat.specs.Variables.{listed, with_variable}
+use Rattle.fvn_flat.proofs.Binding.{same_var_is, same_var_itself}
+use Rattle.fvn_flat.proofs.ListedVariables.{Distinct, with_variable_distinct}
 use Rattle.fvn_rewrite_laws.specs.declared.shapes.Root.{Root}
 use Rattle.fvn_rewrite_laws.specs.declared.shapes.Root.TheVariants.{Variable, Constant, Compound}
 use Rattle.fvn_rewrite_laws.specs.declared.shapes.Shape.{Shape}
 use Rattle.fvn_rewrite_laws.specs.Shapes.{shape_in}
 use Rattle.fvn_rewrite_laws.specs.Identities.{identities}
-use Rattle.fvn_rewrite_laws.specs.Choices.{variable_shape, identity_shape, sorts_below, identities_below}
+use Rattle.fvn_rewrite_laws.specs.Choices.{variable_shape, identity_shape, sorts_below, identities_below, sort_choices}
 use Rattle.fvn_rewrite_laws.proofs.Identities.{op_listed}
 use Rattle.fvn_rewrite_laws.proofs.Choosing.{listed_below, identity_below}
 use Rattle.fvn_cohere.specs.declared.searching.Sought.{Sought}
-use Rattle.fvn_cohere.specs.declared.searching.Sought.TheVariants.{Loss, ToVariable, ToIdentity}
+use Rattle.fvn_cohere.specs.declared.searching.Sought.TheVariants.{Loss, LossAt, ToVariable, ToIdentity}
 use Rattle.fvn_cohere.specs.declared.outlooks.Outlook.{Outlook}
-use Rattle.fvn_cohere.specs.inner.Searching.{is_variable_root, is_identity_root, is_met, with_shape, some_choice, unchosen_of, choices_for}
-use Rattle.fvn_cohere.specs.inner.Outlooks.{offered, IsAllowed, AreAllowed, IsLow, Suits, Fills, Offers}
-use Rattle.fvn_cohere.proofs.Tests.{any_true}
+use Rattle.fvn_cohere.specs.inner.Searching.{is_variable_root, is_identity_root, is_lost_at, is_met, with_shape, some_choice, unchosen_of, choices_for}
+use Rattle.fvn_cohere.specs.inner.Outlooks.{offered, AreOnce, IsAllowed, AreAllowed, IsLow, IsOutOfReach, Suits, Fills, Offers}
+use Rattle.fvn_cohere.proofs.Tests.{any_true, any_false}
 
 -- a test that is passed only where it cannot be is not passed
 refuted : (b : Bool) → (b ≡ true → ⊥) → b ≡ false
@@ -41,6 +43,12 @@ refuted false h = refl
 negated : (b : Bool) → IsTrue (not b) → IsTrue b → ⊥
 negated true h k = false≢true h
 negated false h k = false≢true k
+
+-- both sides of a conjunction are to hold
+and_false : (a b : Bool) → (a ≡ false) ⊎ (b ≡ false) → (a && b) ≡ false
+and_false a b (inl e) = ap (λ z. z && b) e
+and_false true b (inr e) = e
+and_false false b (inr e) = refl
 
 variable_root : (root : Root) → is_variable_root root ≡ true → root ≡ Variable
 variable_root Variable h = refl
@@ -61,6 +69,13 @@ module _ (d : Declarations) where
         ap (λ z. is_met d z es left right filled) e
         ∙ ap not (at_or_below-complete d (AtOrBelow-trans d q.high (h (shape_in d filled left).sort p.low)))
 
+    pub excludes_loss_at : (s : SortId) (a : Outlook) → sought ≡ LossAt s → Suits d a (shape_in d filled left) →
+        IsOutOfReach d s a.low ⊎ AtOrBelow d (shape_in d filled right).sort s → is_met d sought es left right filled ≡ false
+    excludes_loss_at s a e p h = ap (λ z. is_met d z es left right filled) e ∙ not_lost h where
+      not_lost : IsOutOfReach d s a.low ⊎ AtOrBelow d (shape_in d filled right).sort s → is_lost_at d s (shape_in d filled left).sort (shape_in d filled right).sort ≡ false
+      not_lost (inl out) = and_false (at_or_below d (shape_in d filled left).sort s) (not (at_or_below d (shape_in d filled right).sort s)) (inl (refuted (at_or_below d (shape_in d filled left).sort s) (λ k. out (shape_in d filled left).sort p.low (at_or_below-true d (shape_in d filled left).sort s k))))
+      not_lost (inr below) = and_false (at_or_below d (shape_in d filled left).sort s) (not (at_or_below d (shape_in d filled right).sort s)) (inr (ap not (at_or_below-complete d below)))
+
     pub excludes_variable : (a : Outlook) → sought ≡ ToVariable → Suits d a (shape_in d filled left) → IsTrue (not a.variable) → is_met d sought es left right filled ≡ false
     excludes_variable a e p h =
         ap (λ z. is_met d z es left right filled) e
@@ -71,6 +86,11 @@ module _ (d : Declarations) where
         ap (λ z. is_met d z es left right filled) e
         ∙ refuted (is_identity_root es (shape_in d filled left).root)
         (λ k. let r = identity_root es (shape_in d filled left).root k in negated a.identity h (p.identity r.0 (subst (λ l. Contains l r.0) is r.1.0) r.1.1))
+
+  -- a known lower bound that is not at or below the sort
+  pub out_of_reach : (s : SortId) (low : Option SortId) (q : SortId) (below : Bool) → low ≡ Some q → below ≡ at_or_below d q s → IsTrue (not below) → IsOutOfReach d s low
+  out_of_reach s low q below e p h r known a =
+      negated below h (p ∙ at_or_below-complete d (AtOrBelow-trans d (subst (λ l. IsLow d l r) e known) a))
 
   variable_constant : (s : SortId) (e : OpId) → (variable_shape s).root ≡ Constant e → ⊥
   variable_constant s e h = let no : Variable ≡ Constant e = h in cc
@@ -104,71 +124,97 @@ module _ (d : Declarations) where
       | inr i ↦ identity_allowed x o i
     ]
 
-    -- what a variable may stand for in a search
-    pub choices_allowed : (sought : Sought) (x : Var) (o : Shape) → Contains (choices_for d sought x.sort) o → IsAllowed d x o
-    choices_allowed Loss x o c = elim (Contains-append_cases (map variable_shape (sorts_below d x.sort)) (map (identity_shape d) (identities_below d x.sort)) o c) as (λ _. IsAllowed d x o) [
+    sort_allowed : (x : Var) (o : Shape) → Contains (sort_choices d x.sort) o → IsAllowed d x o
+    sort_allowed x o c = elim (Contains-append_cases (map variable_shape (sorts_below d x.sort)) (map (identity_shape d) (identities_below d x.sort)) o c) as (λ _. IsAllowed d x o) [
       | inl i ↦ let w = map_contains variable_shape (sorts_below d x.sort) o i in subst (IsAllowed d x) w.1.1 (variable_allowed x w.0 (listed_below d good completed w.0 x.sort w.1.0))
       | inr i ↦ identity_allowed x o i
     ]
+
+    -- what a variable may stand for in a search
+    pub choices_allowed : (sought : Sought) (x : Var) (o : Shape) → Contains (choices_for d sought x.sort) o → IsAllowed d x o
+    choices_allowed Loss x o c = sort_allowed x o c
+    choices_allowed (LossAt s) x o c = sort_allowed x o c
     choices_allowed ToVariable x o c = itself_allowed x o c
     choices_allowed ToIdentity x o c = itself_allowed x o c
 
-    -- what one of the variables may stand for
-    pub entry_allowed : (sought : Sought) (unchosen : List (Var × List Shape)) → Offers d sought unchosen → (i : ℕ) (v : Var × List Shape) → i < length unchosen → v ≡ get_or unchosen i v → (o : Shape) → Contains v.1 o → IsAllowed d v.0 o
-    entry_allowed sought unchosen offers i v within is o c =
-        choices_allowed sought v.0 o (subst (λ l. Contains l o) (offers v (subst (Contains unchosen) (sym is) (Contains-get_or unchosen i v within))) c)
+  -- what one of the variables may stand for
+  pub entry_allowed : (unchosen : List (Var × List Shape)) → Offers d unchosen → (i : ℕ) (v : Var × List Shape) → i < length unchosen → v ≡ get_or unchosen i v → (o : Shape) → Contains v.1 o → IsAllowed d v.0 o
+  entry_allowed unchosen offers i v within is o c = offers.allowed v (subst (Contains unchosen) (sym is) (Contains-get_or unchosen i v within)) o c
 
-    module _ (sought : Sought) (test : (Var → Shape) → Bool) where
-      offered_choices : (unchosen : List (Var × List Shape)) → Offers d sought unchosen → (y : Var) (shapes : List Shape) → offered unchosen y ≡ Some shapes → shapes ≡ choices_for d sought y.sort
-      offered_choices [] offers y shapes h = cc
-      offered_choices (v ∷ unchosen) offers y shapes h = go (offered_choices unchosen (λ w c. offers w (contains_later v unchosen w c)) y shapes) (same_var v.0 y) refl h where
-        go : (offered unchosen y ≡ Some shapes → shapes ≡ choices_for d sought y.sort) → (b : Bool) → same_var v.0 y ≡ b → (if b then Some v.1 else offered unchosen y) ≡ Some shapes → shapes ≡ choices_for d sought y.sort
-        go rest true p h = sym (Some-injective h) ∙ offers v (contains_here v unchosen) ∙ ap (λ (z : Var). choices_for d sought z.sort) (same_var_is v.0 y p)
-        go rest false p h = rest h
+  -- what is left of the variables
+  pub offers_later : (v : Var × List Shape) (unchosen : List (Var × List Shape)) → Offers d (v ∷ unchosen) → Offers d unchosen
+  offers_later v unchosen offers = record { allowed = λ w c. offers.allowed w (contains_later v unchosen w c); once = offers.once.1 }
 
-      -- what is left of the variables, and one more that stands for this shape
-      module _ (v : Var × List Shape) (unchosen : List (Var × List Shape)) (offers : Offers d sought (v ∷ unchosen)) (env filled : Var → Shape) (o : Shape) (among : Contains v.1 o) (fills : Fills d unchosen (with_shape env v.0 o) filled) where
-        later : Offers d sought unchosen
-        later w c = offers w (contains_later v unchosen w c)
+  -- one variable more, that stands for this shape
+  fills_more : (v : Var × List Shape) (unchosen : List (Var × List Shape)) → offered unchosen v.0 ≡ None → (env filled : Var → Shape) (o : Shape) → Contains v.1 o → Fills d unchosen (with_shape env v.0 o) filled → Fills d (v ∷ unchosen) env filled
+  fills_more v unchosen once env filled o among fills = record { allowed = fills.allowed; each = λ y. go y (same_var v.0 y) refl (offered unchosen y) refl (fills.each y) } where
+    go : (y : Var) (b : Bool) → same_var v.0 y ≡ b → (rest : Option (List Shape)) → offered unchosen y ≡ rest → MatchOption rest (filled y ≡ (if b then o else env y)) (λ shapes. Contains shapes (filled y)) →
+        MatchOption (if b then Some v.1 else rest) (filled y ≡ env y) (λ shapes. Contains shapes (filled y))
+    go y true p None q k = subst (Contains v.1) (sym k) among
+    go y true p (Some shapes) q k = let no : None ≡ Some shapes = sym once ∙ ap (offered unchosen) (same_var_is v.0 y p) ∙ q in cc
+    go y false p None q k = k
+    go y false p (Some shapes) q k = k
 
-        own : v.1 ≡ choices_for d sought v.0.sort
-        own = offers v (contains_here v unchosen)
+  module _ (test : (Var → Shape) → Bool) where
+    -- a choice that is found is one for all variables
+    pub found : (unchosen : List (Var × List Shape)) → Offers d unchosen → (env : Var → Shape) → AreAllowed d env → some_choice test unchosen env ≡ true →
+        (filled : Var → Shape) × (Fills d unchosen env filled × (test filled ≡ true))
+    found [] offers env allowed h = (env, (record { allowed = allowed; each = λ y. refl }, h))
+    found (v ∷ unchosen) offers env allowed h =
+        let o = any_true (λ o. some_choice test unchosen (with_shape env v.0 o)) v.1 h in
+        let r = found unchosen (offers_later v unchosen offers) (with_shape env v.0 o.0) (allowed_more env v.0 o.0 allowed (offers.allowed v (contains_here v unchosen) o.0 o.1.0)) o.1.1 in
+        (r.0, (fills_more v unchosen offers.once.0 env r.0 o.0 o.1.0 r.1.0, r.1.1))
 
-        fills_more : Fills d (v ∷ unchosen) env filled
-        fills_more = record { allowed = fills.allowed; each = λ y. go y (same_var v.0 y) refl (offered unchosen y) refl (fills.each y) } where
-          go : (y : Var) (b : Bool) → same_var v.0 y ≡ b → (rest : Option (List Shape)) → offered unchosen y ≡ rest → MatchOption rest (filled y ≡ (if b then o else env y)) (λ shapes. Contains shapes (filled y)) →
-              MatchOption (if b then Some v.1 else rest) (filled y ≡ env y) (λ shapes. Contains shapes (filled y))
-          go y true p None q k = subst (Contains v.1) (sym k) among
-          go y true p (Some shapes) q k =
-              subst (λ l. Contains l (filled y)) (offered_choices unchosen later y shapes q ∙ sym (own ∙ ap (λ (z : Var). choices_for d sought z.sort) (same_var_is v.0 y p))) k
-          go y false p None q k = k
-          go y false p (Some shapes) q k = k
+    -- where no choice for all variables passes the test, the search finds none
+    pub none_found : (unchosen : List (Var × List Shape)) → Offers d unchosen → (env : Var → Shape) → AreAllowed d env →
+        ((filled : Var → Shape) → Fills d unchosen env filled → test filled ≡ false) → some_choice test unchosen env ≡ false
+    none_found unchosen offers env allowed h =
+        refuted (some_choice test unchosen env) (λ e. let r = found unchosen offers env allowed e in true≢false (sym r.1.1 ∙ h r.0 r.1.0))
 
-      -- a choice that is found is one for all variables
-      found : (unchosen : List (Var × List Shape)) → Offers d sought unchosen → (env : Var → Shape) → AreAllowed d env → some_choice test unchosen env ≡ true →
-          (filled : Var → Shape) × (Fills d unchosen env filled × (test filled ≡ true))
-      found [] offers env allowed h = (env, (record { allowed = allowed; each = λ y. refl }, h))
-      found (v ∷ unchosen) offers env allowed h =
-          let o = any_true (λ o. some_choice test unchosen (with_shape env v.0 o)) v.1 h in
-          let own : v.1 ≡ choices_for d sought v.0.sort = offers v (contains_here v unchosen) in
-          let r =
-          found unchosen (λ w c. offers w (contains_later v unchosen w c)) (with_shape env v.0 o.0)
-          (allowed_more env v.0 o.0 allowed (choices_allowed sought v.0 o.0 (subst (λ l. Contains l o.0) own o.1.0))) o.1.1 in
-          (r.0, (fills_more v unchosen offers env r.0 o.0 o.1.0 r.1.0, r.1.1))
+    -- and the other way round, for a test of values alone
+    module _ (agree : (f g : Var → Shape) → ((y : Var) → f y ≡ g y) → test f ≡ test g) where
+      pub none_passes : (unchosen : List (Var × List Shape)) → AreOnce unchosen → (env : Var → Shape) → some_choice test unchosen env ≡ false → (filled : Var → Shape) → Fills d unchosen env filled → test filled ≡ false
+      none_passes [] once env h filled fills = agree filled env fills.each ∙ h
+      none_passes (v ∷ unchosen) once env h filled fills =
+          none_passes unchosen once.1 (with_shape env v.0 (filled v.0)) (any_false (λ o. some_choice test unchosen (with_shape env v.0 o)) v.1 h (filled v.0) own) filled record { allowed = fills.allowed; each = λ y. go y (same_var v.0 y) refl (fills.each y) }
+        where
+          own : Contains v.1 (filled v.0)
+          own = at (same_var v.0 v.0) (same_var_itself v.0) (fills.each v.0) where
+            at : (b : Bool) → b ≡ true → MatchOption (if b then Some v.1 else offered unchosen v.0) (filled v.0 ≡ env v.0) (λ shapes. Contains shapes (filled v.0)) → Contains v.1 (filled v.0)
+            at true e k = k
+            at false e k = absurd (false≢true e)
 
-      -- where no choice for all variables passes the test, the search finds none
-      pub none_found : (unchosen : List (Var × List Shape)) → Offers d sought unchosen → (env : Var → Shape) → AreAllowed d env →
-          ((filled : Var → Shape) → Fills d unchosen env filled → test filled ≡ false) → some_choice test unchosen env ≡ false
-      none_found unchosen offers env allowed h =
-          refuted (some_choice test unchosen env) (λ e. let r = found unchosen offers env allowed e in true≢false (sym r.1.1 ∙ h r.0 r.1.0))
+          go : (y : Var) (b : Bool) → same_var v.0 y ≡ b → MatchOption (if b then Some v.1 else offered unchosen y) (filled y ≡ env y) (λ shapes. Contains shapes (filled y)) →
+              MatchOption (offered unchosen y) (filled y ≡ (if b then filled v.0 else env y)) (λ shapes. Contains shapes (filled y))
+          go y true p k = let e : v.0 ≡ y = same_var_is v.0 y p in subst (λ r. MatchOption r (filled y ≡ filled v.0) (λ shapes. Contains shapes (filled y))) (sym once.0 ∙ ap (offered unchosen) e) (ap filled (sym e))
+          go y false p k = k
 
-  -- the choices of a search for what has the same choices
-  pub offers_of : (made sought : Sought) (vars : List Var) (unchosen : List (Var × List Shape)) → unchosen ≡ unchosen_of (choices_for d made) vars → choices_for d made ≡ choices_for d sought → Offers d sought unchosen
-  offers_of made sought vars unchosen e p v c =
-      let w = map_contains (λ (x : Var). (x, choices_for d made x.sort)) vars v (subst (λ l. Contains l v) e c) in
-      subst (λ (z : Var × List Shape). z.1 ≡ choices_for d sought z.0.sort) w.1.1 (ap (λ choices. choices w.0.sort) p)
+  -- variables that are listed once are offered once
+  not_offered : (choices : SortId → List Shape) (vars : List Var) (x : Var) → listed vars x ≡ false → offered (unchosen_of choices vars) x ≡ None
+  not_offered choices [] x h = refl
+  not_offered choices (y ∷ vars) x h =
+      let both = or_parts (same_var y x) (listed vars x) h in
+      ap (λ b. if b then Some (choices y.sort) else offered (unchosen_of choices vars) x) both.0 ∙ not_offered choices vars x both.1
 
-  pub offers_drop : (sought : Sought) (unchosen : List (Var × List Shape)) (n : ℕ) → Offers d sought unchosen → Offers d sought (drop n unchosen)
-  offers_drop sought unchosen zero h v c = h v c
-  offers_drop sought [] (suc n) h v c = absurd (contains_none v c)
-  offers_drop sought (u ∷ unchosen) (suc n) h v c = offers_drop sought unchosen n (λ w i. h w (contains_later u unchosen w i)) v c
+  once_offered : (choices : SortId → List Shape) (vars : List Var) → Distinct vars → AreOnce (unchosen_of choices vars)
+  once_offered choices [] h = tt
+  once_offered choices (x ∷ vars) h = (not_offered choices vars x h.0, once_offered choices vars h.1)
+
+  -- the choices of a search
+  pub offers_of : IsGood d → IsCompleted d → (made : Sought) (vars : List Var) (unchosen : List (Var × List Shape)) → Distinct vars → unchosen ≡ unchosen_of (choices_for d made) vars → Offers d unchosen
+  offers_of good completed made vars unchosen distinct e = record {
+    allowed = λ v c.
+        let w = map_contains (λ (x : Var). (x, choices_for d made x.sort)) vars v (subst (λ l. Contains l v) e c) in
+        subst (λ (z : Var × List Shape). (o : Shape) → Contains z.1 o → IsAllowed d z.0 o) w.1.1 (choices_allowed good completed made w.0);
+    once = subst AreOnce (sym e) (once_offered (choices_for d made) vars distinct);
+  }
+
+  pub offers_drop : (unchosen : List (Var × List Shape)) (n : ℕ) → Offers d unchosen → Offers d (drop n unchosen)
+  offers_drop unchosen zero h = h
+  offers_drop [] (suc n) h = h
+  offers_drop (u ∷ unchosen) (suc n) h = offers_drop unchosen n (offers_later u unchosen h)
+
+-- variables that are listed in turn, each once
+pub fold_distinct : (xs vars : List Var) → Distinct vars → Distinct (fold with_variable vars xs)
+fold_distinct [] vars h = h
+fold_distinct (x ∷ xs) vars h = fold_distinct xs (with_variable vars x) (with_variable_distinct vars x h)

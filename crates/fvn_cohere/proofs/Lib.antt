@@ -8,6 +8,7 @@ mod Sifting
 mod Firsts
 mod Foreseen
 mod Hopeless
+mod Narrowed
 mod Found
 mod Harmless
 mod Admissible

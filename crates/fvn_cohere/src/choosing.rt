@@ -102,6 +102,10 @@ fn choices(
             let all = lower_or_identities(alloc, sig, ids, s)?;
             Ok(all)
         }
+        Sought::LossAt(_) => {
+            let all = lower_or_identities(alloc, sig, ids, s)?;
+            Ok(all)
+        }
         Sought::ToVariable => {
             let all = itself_or_identities(alloc, sig, ids, s)?;
             Ok(all)

@@ -9,6 +9,7 @@ mod fitting;
 mod identities;
 mod laws;
 mod losing;
+mod narrowing;
 mod outlooks;
 mod searching;
 mod shapes;

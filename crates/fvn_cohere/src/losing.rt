@@ -38,6 +38,9 @@ fn loses(alloc: Global, sig: &Signature, left: &Plain, right: &Plain) -> Result<
         right,
         unchosen: left_over,
     };
+    if let Some(told) = search.loss_by_sorts(alloc)? {
+        return Ok(told);
+    }
     let found = search.find(0, &Chosen::Nothing);
     Ok(found)
 }

@@ -14,7 +14,7 @@ ghost use Rattle.fvn_rewrite_laws.specs.declared.shapes.Shape.{Shape};
 ghost use Rattle.fvn_rewrite_laws.specs.Shapes.{shape_in, shape_over};
 ghost use Rattle.fvn_rewrite_laws.specs.Identities.{identities};
 ghost use Rattle.fvn_cohere.specs.inner.Searching.{is_met};
-ghost use Rattle.fvn_cohere.specs.inner.Outlooks.{is_constant_root, offered, is_at_least, may_serve, is_below_rank, lows_of, highs_of, IsLow, Suits, AreArguments, IsJoined};
+ghost use Rattle.fvn_cohere.specs.inner.Outlooks.{is_constant_root, offered, is_at_least, may_serve, is_below_rank, lows_of, highs_of, IsLow, IsOutOfReach, Suits, AreArguments, IsJoined};
 ghost use Rattle.fvn_cohere.specs.inner.Posed.{ForEachFilled};
 
 use crate::identities::{is_at_or_below, is_listed};
@@ -125,6 +125,51 @@ fn low_among(sig: &Signature, shapes: &[Shape]) -> Option<SortId>
                 return Some(q);
             }
             None
+        }
+    }
+}
+
+// A sort that is the highest of those of the shapes, if there is a highest.
+fn high_candidate(sig: &Signature, shapes: &[Shape]) -> Option<SortId> {
+    let mut high: Option<SortId> = None;
+    for o in shapes {
+        high = higher_candidate(sig, high, o.sort);
+    }
+    high
+}
+
+// The higher one of the two.
+fn higher_candidate(sig: &Signature, high: Option<SortId>, s: SortId) -> Option<SortId> {
+    match high {
+        None => Some(s),
+        Some(q) => { if sig.leq(q, s) { Some(s) } else { Some(q) } }
+    }
+}
+
+// Whether the sort is at or above those of all shapes.
+fn is_above_all(sig: &Signature, q: SortId, shapes: &[Shape]) -> bool
+    ensures { result ≡ list_all (λ (o : Shape). at_or_below sig.now o.sort q) shapes.now }
+{
+    for o in shapes {
+        if !is_at_or_below(sig, o.sort, q) {
+            return false;
+        }
+    }
+    true
+}
+
+// The highest sort of the shapes, or else one that is above them.
+fn high_among(sig: &Signature, shapes: &[Shape], above: SortId) -> SortId
+    ensures { (o : Shape) → Contains shapes.now o →
+        AtOrBelow sig.now o.sort above → AtOrBelow sig.now o.sort result }
+{
+    match high_candidate(sig, shapes) {
+        None => above,
+        Some(q) => {
+            if is_above_all(sig, q, shapes) {
+                return q;
+            }
+            above
         }
     }
 }
@@ -409,6 +454,16 @@ fn is_below_low(sig: &Signature, s: SortId, low: Option<SortId>) -> bool
     }
 }
 
+// Whether no sort with the lower bound is at or below this one.
+fn is_out_of_reach(sig: &Signature, s: SortId, low: Option<SortId>) -> bool
+    ensures { IsTrue result → IsOutOfReach sig.now s low }
+{
+    match low {
+        None => false,
+        Some(q) => !is_at_or_below(sig, q, s),
+    }
+}
+
 impl PartialChoice<'_> {
     // The outlook of a variable.
     fn variable_outlook(&self, x: Var) -> Outlook
@@ -422,11 +477,12 @@ impl PartialChoice<'_> {
             Some(shapes) => {
                 let identity = has_constant(shapes);
                 let low = low_among(self.sig, shapes);
+                let high = high_among(self.sig, shapes, x.sort);
                 Outlook {
                     variable: true,
                     identity,
                     low,
-                    high: x.sort,
+                    high,
                 }
             }
         }
@@ -468,6 +524,22 @@ impl PartialChoice<'_> {
         }
         outlook_over(self.sig, self.identities, f, &parts[..i])
     }
+
+    // Whether the left side, which has this outlook, never has the sort, or the right side always.
+    fn excludes_at(&self, s: SortId, left: Outlook, right: &Plain) -> bool
+        requires identities { self.now.identities.now ≡ identities self.now.sig.now }
+        requires right { IsTerm self.now.sig.now (term right.now) }
+        ensures { IsTrue result → IsOutOfReach self.now.sig.now s left.low ⊎
+            ForEachFilled self.now (λ filled.
+            AtOrBelow self.now.sig.now (shape_in self.now.sig.now filled (term right.now)).sort s) }
+    {
+        if is_out_of_reach(self.sig, s, left.low) {
+            return true;
+        }
+        let high_side = self.outlook(right);
+        self.sig.leq(high_side.high, s)
+    }
+
     // Whether no choice for the variables that are not chosen is one that is sought.
     pub(crate) fn excludes(&self, sought: Sought, left: &Plain, right: &Plain) -> bool
         requires identities { self.now.identities.now ≡ identities self.now.sig.now }
@@ -483,6 +555,7 @@ impl PartialChoice<'_> {
                 let high_side = self.outlook(right);
                 is_below_low(self.sig, high_side.high, low_side.low)
             }
+            Sought::LossAt(s) => self.excludes_at(s, low_side, right),
             Sought::ToVariable => !low_side.variable,
             Sought::ToIdentity => !low_side.identity,
         }

@@ -3,10 +3,11 @@ ghost use Rattle.std.specs.Prelude.{◌≡◌, ◌≤◌, ◌<◌, ◌+◌, leng
 ghost use Rattle.std.specs.List.{list_any};
 ghost use Rattle.fvn_terms.specs.Plain.{term};
 ghost use Rattle.fvn_terms.specs.Signature.{IsTerm};
-ghost use Rattle.fvn_cohere.specs.inner.Searching.{shapes_by, is_variable_root, is_identity_root, with_shape, some_choice};
+ghost use Rattle.fvn_cohere.specs.inner.Searching.{shapes_by, is_lost_at, is_variable_root, is_identity_root, with_shape, some_choice};
 ghost use Rattle.fvn_cohere.specs.inner.Outlooks.{AreAllowed, IsAllowed};
 ghost use Rattle.fvn_cohere.specs.inner.Posed.{IsPosed, is_sought};
 ghost use Rattle.fvn_rewrite_laws.specs.declared.shapes.Shape.{Shape};
+ghost use Rattle.fvn_rewrite_laws.specs.Shapes.{shape_in};
 
 use crate::identities::{is_at_or_below, is_listed};
 use crate::outlooks::PartialChoice;
@@ -14,16 +15,18 @@ use crate::shapes::{Chosen, shape};
 use fvn_base::Seq;
 use fvn_rewrite_laws::{Root, Shape};
 use fvn_signature::Signature;
-use fvn_terms::{OpId, Plain, Var};
+use fvn_terms::{OpId, Plain, SortId, Var};
 
 // So many instances make it worth asking, before they are tried, what can come of them.
-const MANY: usize = 256;
+const MANY: usize = 16;
 
 // What is sought: a choice under which the right side has a sort that is not at or below that of the
-// left side, or one under which the left side is a variable, or an identity.
+// left side, or one under which the left side has this sort and the right side has not, or one under
+// which the left side is a variable, or an identity.
 #[derive(Clone, Copy, PartialEq, Eq)]
 pub(crate) enum Sought {
     Loss,
+    LossAt(SortId),
     ToVariable,
     ToIdentity,
 }
@@ -60,6 +63,19 @@ pub(crate) fn is_identity_root(es: &[OpId], root: Root) -> bool
 }
 
 impl Search<'_> {
+    // Whether the left side, which has this least sort, has the sort s, and the right side has not.
+    fn is_lost_at(&self, s: SortId, left: SortId, chosen: &Chosen<'_>) -> bool
+        requires { IsTerm self.now.sig.now (term self.now.right.now) }
+        ensures { result ≡ is_lost_at self.now.sig.now s left
+            (shape_in self.now.sig.now (shapes_by chosen.now) (term self.now.right.now)).sort }
+    {
+        if !is_at_or_below(self.sig, left, s) {
+            return false;
+        }
+        let right = shape(self.sig, chosen, self.right);
+        !is_at_or_below(self.sig, right.sort, s)
+    }
+
     // Whether the choice is one that is sought.
     fn is_met(&self, chosen: &Chosen<'_>) -> bool
         requires left { IsTerm self.now.sig.now (term self.now.left.now) }
@@ -72,6 +88,7 @@ impl Search<'_> {
                 let right = shape(self.sig, chosen, self.right);
                 !is_at_or_below(self.sig, right.sort, left.sort)
             }
+            Sought::LossAt(s) => self.is_lost_at(s, left.sort, chosen),
             Sought::ToVariable => is_variable_root(left.root),
             Sought::ToIdentity => is_identity_root(self.identities, left.root),
         }

@@ -6,32 +6,36 @@ use Rattle.fvn_combine_nodes.specs.States.{IsClosed, class_of}
 use Rattle.fvn_combine_nodes.specs.Unifiers.{value_at, kernel}
 use Rattle.fvn_combine_nodes.specs.declared.state.State.{State}
 use Rattle.fvn_combine_nodes.proofs.Kernels.{same_class, same_value}
-use Rattle.fvn_combine_complete.specs.Laws.{UnifiersGoWith}
+use Rattle.fvn_combine_inferring.specs.Laws.{SortedUnifiersGoWith}
+use Rattle.fvn_combine_inferring.specs.Sorted.{GoWithSorts}
 use Rattle.fvn_combine_inferring.specs.Inferred.{HasNoValues, HaveOneValue, HaveTwoValues}
 use Rattle.fvn_combine.specs.Tasks.{Combining, IsCombining}
 use Rattle.fvn_combine.specs.inner.Found.{IsAdmittedBy, IsLookedAt, IsLooked}
 use Rattle.fvn_combine.specs.declared.looking.Looked.{Looked}
 use Rattle.fvn_combine.specs.declared.looking.Looked.TheVariants.{Over, Open, Together, Apart, Passed, Refused, Leaf}
 
-pub none_admitted : (k : Combining) → IsCombining k → UnifiersGoWith → (s : State) → IsClosed k.declarations k.table s → HasNoValues k.declarations k.table s → (u : Substitution) → IsAdmittedBy k s u → ⊥
-none_admitted k is law s closed none u h =
-    none (value_at k.declarations u k.table.nodes) (law k.declarations is.good.fits (problem_of k.given) is.is_given.kinds k.table is.well_made is.table_of u h.0.unifies s closed h.1)
+module _ (k : Combining) (is : IsCombining k) (law : SortedUnifiersGoWith) (s : State) (closed : IsClosed k.declarations k.table s) where
+  -- the values of such a unifier go with the state
+  pub values_admitted : (u : Substitution) → IsAdmittedBy k s u → GoWithSorts k.declarations k.table s k.sorted (value_at k.declarations u k.table.nodes)
+  values_admitted u h = law k.declarations is.good (problem_of k.given) is.is_given.kinds k.table is.well_made is.table_of s closed u h.0.unifies h.1 k.sorted h.0.keeps_sorts
 
--- nodes that have one value under all are in one class of its partition
-pub together_admitted : (k : Combining) → IsCombining k → UnifiersGoWith → (s : State) → IsClosed k.declarations k.table s → (i j : ℕ) → i < length k.table.nodes → j < length k.table.nodes → HaveOneValue k.declarations k.table s i j
-    → (u : Substitution) → IsAdmittedBy k s u → kernel k.declarations u k.table.nodes i ≡ kernel k.declarations u k.table.nodes j
-together_admitted k is law s closed i j l m one u h =
-    let w = closed.whole in
-    let e = one (value_at k.declarations u k.table.nodes) (law k.declarations is.good.fits (problem_of k.given) is.is_given.kinds k.table is.well_made is.table_of u h.0.unifies s closed h.1) in
-    h.1.together i (omega (arith, l, w)) ∙ same_class k.declarations u k.table.nodes (class_of s i) (class_of s j) e ∙ sym (h.1.together j (omega (arith, m, w)))
+  pub none_admitted : HasNoValues k.declarations k.table s k.sorted → (u : Substitution) → IsAdmittedBy k s u → ⊥
+  none_admitted none u h = none (value_at k.declarations u k.table.nodes) (values_admitted u h)
 
--- nodes that have two values under all are in two classes
-pub apart_admitted : (k : Combining) → IsCombining k → UnifiersGoWith → (s : State) → IsClosed k.declarations k.table s → (i j : ℕ) → i < length k.table.nodes → j < length k.table.nodes → HaveTwoValues k.declarations k.table s i j
-    → (u : Substitution) → IsAdmittedBy k s u → kernel k.declarations u k.table.nodes i ≢ kernel k.declarations u k.table.nodes j
-apart_admitted k is law s closed i j l m two u h e =
-    let w = closed.whole in
-    two (value_at k.declarations u k.table.nodes) (law k.declarations is.good.fits (problem_of k.given) is.is_given.kinds k.table is.well_made is.table_of u h.0.unifies s closed h.1)
-    (same_value k.declarations u k.table.nodes (class_of s i) (class_of s j) (sym (h.1.together i (omega (arith, l, w))) ∙ e ∙ h.1.together j (omega (arith, m, w))))
+  module _ (i j : ℕ) (l : i < length k.table.nodes) (m : j < length k.table.nodes) where
+    -- nodes that have one value under all are in one class of its partition
+    pub together_admitted : HaveOneValue k.declarations k.table s k.sorted i j → (u : Substitution) → IsAdmittedBy k s u → kernel k.declarations u k.table.nodes i ≡ kernel k.declarations u k.table.nodes j
+    together_admitted one u h =
+        let w = closed.whole in
+        let e = one (value_at k.declarations u k.table.nodes) (values_admitted u h) in
+        h.1.together i (omega (arith, l, w)) ∙ same_class k.declarations u k.table.nodes (class_of s i) (class_of s j) e ∙ sym (h.1.together j (omega (arith, m, w)))
+
+    -- nodes that have two values under all are in two classes
+    pub apart_admitted : HaveTwoValues k.declarations k.table s k.sorted i j → (u : Substitution) → IsAdmittedBy k s u → kernel k.declarations u k.table.nodes i ≢ kernel k.declarations u k.table.nodes j
+    apart_admitted two u h e =
+        let w = closed.whole in
+        two (value_at k.declarations u k.table.nodes) (values_admitted u h)
+        (same_value k.declarations u k.table.nodes (class_of s i) (class_of s j) (sym (h.1.together i (omega (arith, l, w))) ∙ e ∙ h.1.together j (omega (arith, m, w))))
 
 -- what is asked for by the last state is asked for by the tree
 pub looked_last : (k : Combining) (states below : List State) (s : State) → states ≡ below ++ s ∷ [] → (r : Looked) → IsLookedAt k s r → IsLooked k states r

@@ -1,5 +1,5 @@
 -- A leaf that is opened: all that its state admits is covered by a choice that is to come.
-use Rattle.std.proofs.Common.{◌≡◌, ℕ, ◌<◌, ◌≤◌, List, length, sym, subst, inr, arith, All, None}
+use Rattle.std.proofs.Common.{◌≡◌, ℕ, ◌<◌, ◌≤◌, List, length, sym, ◌∙◌, subst, inr, arith, All, None}
 use Rattle.std.specs.List.{AllZip}
 use Rattle.fvn_terms.specs.Substitution.{Substitution}
 use Rattle.fvn_flat.specs.Solving.{problem_of}
@@ -21,12 +21,16 @@ use Rattle.fvn_combine_candidates.specs.Laws.{BasesMakeSystems, CoveringChoicesA
 use Rattle.fvn_combine_candidates.specs.Sharing.{AreSharedClasses}
 use Rattle.fvn_combine_candidates.specs.Tags.{tag_counts}
 use Rattle.fvn_combine_candidates.specs.declared.sharing.SharedClass.{SharedClass}
+use Rattle.fvn_combine_inferring.specs.Inferred.{TellHeads}
+use Rattle.fvn_combine_inferring.specs.Laws.{SortedUnifiersGoWith}
+use Rattle.fvn_combine_inferring.specs.declared.heads.Known.{Known}
 use Rattle.fvn_combine_triangular.specs.Ready.{IsReady}
 use Rattle.fvn_combine.specs.Tasks.{Combining, IsCombining}
 use Rattle.fvn_combine.specs.Leaves.{IsSortedCovering, IsOpened, IsCoveredToCome}
 use Rattle.fvn_combine.specs.declared.opened.Opened.{Opened}
 use Rattle.fvn_combine.specs.inner.Found.{IsAdmittedBy}
 use Rattle.fvn_combine.proofs.Room.{room}
+use Rattle.fvn_combine.proofs.Inferring.{values_admitted}
 
 module _ (k : Combining) (is : IsCombining k) (s : State) where
   -- operators that use a class are few
@@ -46,15 +50,17 @@ module _ (k : Combining) (is : IsCombining k) (s : State) where
     kinds = kinds;
   }
 
-  module _ (r : Reading) (bases : List (List Solution)) (shared : List SharedClass) (tags : Tagging) (ready : IsReady k.declarations k.given k.first k.table s) (reading : IsReading k.declarations k.table (class_of s) r) (are_shared : AreSharedClasses k.declarations k.table (class_of s) k.sorted shared) where
+  module _ (r : Reading) (known : Known) (bases : List (List Solution)) (shared : List SharedClass) (tags : Tagging) (ready : IsReady k.declarations k.given k.first k.table s) (reading : IsReading k.declarations k.table (class_of s) r) (are_shared : AreSharedClasses k.declarations k.table (class_of s) k.sorted shared) where
     abbrev opened_leaf : Opened
-    opened_leaf = record { reading = r; bases = bases; shared = shared; tags = tags; turning = None }
+    opened_leaf = record { reading = r; known = known; bases = bases; shared = shared; tags = tags; turning = None }
 
-    pub is_opened : IsLeaf k.declarations k.table s → AreBases r.sums bases → tags.counts ≡ tag_counts shared → IsOpened k s opened_leaf
-    is_opened leaf are counts = record {
+    pub is_opened : IsLeaf k.declarations k.table s → TellHeads k.declarations k.table s known.sorted known.heads.items → known.sorted ≡ k.sorted → AreBases r.sums bases → tags.counts ≡ tag_counts shared → IsOpened k s opened_leaf
+    is_opened leaf heads sorted are counts = record {
       ready = ready;
       leaf = leaf;
       reading = reading;
+      known = heads;
+      sorted = sorted;
       bases = are;
       shared = are_shared;
       counts = counts;
@@ -69,13 +75,28 @@ module _ (k : Combining) (is : IsCombining k) (s : State) where
           pending = pending l.0 (subst (λ n. AllZip IsOption n l.0) (sym counts) l.2);
           numbers = l.1;
           as_many = l.3;
-          covered = λ others are. let listed = l.4 others are in record { covering = listed.0; bounds = listed.1 };
+          covered = λ others are.
+              let listed = l.4 others are in
+              record {
+                covering = listed.0;
+                bounds = listed.1;
+                values = h.values;
+                tagged = λ x f shared uses.
+                    let obeyed = h.tagged x f shared uses in
+                    (λ e. obeyed.0 (sym (listed.2 x) ∙ e), λ sum. listed.2 x ∙ obeyed.1 sum);
+              };
         })
 
   -- each unifier that is asked for and that the state admits is covered by a choice that is to come
-  pub covers_admitted : SortedLeavesCover → ReadingsTell → BasesMakeSystems → (o : Opened) → IsOpened k s o → ((u : Substitution) (c : Choice) → IsSortedCovering k s o.reading o.bases u c → IsCoveredToCome k s o u) → (u : Substitution) → IsAdmittedBy k s u → IsCoveredToCome k s o u
-  covers_admitted cover tell make o opened all u h =
+  pub covers_admitted : SortedUnifiersGoWith → SortedLeavesCover → ReadingsTell → BasesMakeSystems → (o : Opened) → IsOpened k s o → ((u : Substitution) (c : Choice) → IsSortedCovering k s o.reading o.bases u c → IsCoveredToCome k s o u) → (u : Substitution) → IsAdmittedBy k s u → IsCoveredToCome k s o u
+  covers_admitted go_with cover tell make o opened all u h =
       let told = tell k.declarations k.table s opened.leaf.closed o.reading opened.reading in
       let systems = make k.declarations k.table (class_of s) o.reading opened.reading o.bases opened.bases in
       let c = cover k.declarations is.good (problem_of k.given) is.is_given.kinds k.table is.well_made is.table_of s opened.leaf told (systems_of o.reading o.bases) systems u h.0.unifies h.1 in
-      all u c.0 record { covering = c.1; bounds = λ e. c.2 (h.0.keeps_sorts e) }
+      all u c.0
+      record {
+        covering = c.1;
+        bounds = λ e. c.2 (h.0.keeps_sorts e);
+        values = values_admitted k is go_with s opened.leaf.closed u h;
+        tagged = c.3;
+      }

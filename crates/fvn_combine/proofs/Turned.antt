@@ -28,7 +28,7 @@ module _ (k : Combining) (is : IsCombining k) (possible : ListedChoicesArePossib
   current = record { tags = tags; wheels = wheels }
 
   abbrev turned_leaf : Opened
-  turned_leaf = record { reading = o.reading; bases = o.bases; shared = o.shared; tags = after; turning = Some current }
+  turned_leaf = record { reading = o.reading; known = o.known; bases = o.bases; shared = o.shared; tags = after; turning = Some current }
 
   is_turning : IsTurning k s o.reading o.bases o.shared current
   is_turning = record { options = options; are_tags = are; are_wheels = asked }
@@ -38,6 +38,8 @@ module _ (k : Combining) (is : IsCombining k) (possible : ListedChoicesArePossib
     ready = opened.ready;
     leaf = opened.leaf;
     reading = opened.reading;
+    known = opened.known;
+    sorted = opened.sorted;
     bases = opened.bases;
     shared = opened.shared;
     counts = counts ∙ opened.counts;

@@ -13,7 +13,7 @@ use Rattle.fvn_combine.specs.inner.Found.{IsDrawnFrom, IsSameButCurrent}
 
 module _ (k : Combining) (s : State) where
   -- what is to come later does not rest on the current tags
-  later_under : (o : Opened) (current : Option Turning) (u : Substitution) → IsCoveredLater k s o u → IsCoveredLater k s (record { reading = o.reading; bases = o.bases; shared = o.shared; tags = o.tags; turning = current }) u
+  later_under : (o : Opened) (current : Option Turning) (u : Substitution) → IsCoveredLater k s o u → IsCoveredLater k s (record { reading = o.reading; known = o.known; bases = o.bases; shared = o.shared; tags = o.tags; turning = current }) u
   later_under o current u h = record {
     options = h.options;
     pending = h.pending;
@@ -25,12 +25,12 @@ module _ (k : Combining) (s : State) where
   module _ (before after : Opened) (same : IsSameButCurrent before after) where
     pub later_kept : (u : Substitution) → IsCoveredLater k s before u → IsCoveredLater k s after u
     later_kept u h = subst (λ o. IsCoveredLater k s o u)
-        (λ i. record { reading = (sym same.reading) i; bases = (sym same.bases) i; shared = (sym same.shared) i; tags = (sym same.tags) i; turning = after.turning })
+        (λ i. record { reading = (sym same.reading) i; known = (sym same.known) i; bases = (sym same.bases) i; shared = (sym same.shared) i; tags = (sym same.tags) i; turning = after.turning })
         (later_under before after.turning u h)
 
     pub later_was : (u : Substitution) → IsCoveredLater k s after u → IsCoveredLater k s before u
     later_was u h = subst (λ o. IsCoveredLater k s o u)
-        (λ i. record { reading = same.reading i; bases = same.bases i; shared = same.shared i; tags = same.tags i; turning = before.turning })
+        (λ i. record { reading = same.reading i; known = same.known i; bases = same.bases i; shared = same.shared i; tags = same.tags i; turning = before.turning })
         (later_under after before.turning u h)
 
     pub to_come_was : ((u : Substitution) → IsCoveredNow k s after u → IsCoveredNow k s before u) → (u : Substitution) → IsCoveredToCome k s after u → IsCoveredToCome k s before u

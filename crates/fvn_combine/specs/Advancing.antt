@@ -10,7 +10,8 @@ use Rattle.fvn_combine_choices.specs.Covering.{CoversOnKinds}
 use Rattle.fvn_combine_drawing.specs.OnKinds.{IsGivenOnKinds}
 use Rattle.fvn_combine.specs.Tasks.{Combining, IsWanted}
 use Rattle.fvn_combine.specs.Endings.{told_of}
-use Rattle.fvn_combine.specs.Search.{Search, Pending, IsEnd, IsRefusedAtLast}
+use Rattle.fvn_combine.specs.Search.{Search, Pending, IsEnd, IsRefusedAtLast, HasNoChoice}
+use Rattle.fvn_combine.specs.Coarser.{IsFinerToCome}
 use Rattle.fvn_combine.specs.declared.ending.Ended.{Ended}
 use Rattle.fvn_combine.specs.declared.ending.Ended.TheVariants.{Basis as OfBasis, Size as OfSize}
 use Rattle.fvn_combine.specs.declared.ending.CombineEnd.{CombineEnd}
@@ -27,6 +28,11 @@ pub record IsOf (d : Declarations) (given : Pairs) (first size : ℕ) (m : Searc
 -- u is a unifier that is asked for, and still to come
 abbrev pub IsToCome : Search → Substitution → Type 0
 IsToCome m u = IsWanted m.combining u × Pending m u
+
+-- where a sum system is refused, what is to come is finer than the partition at which the search ends
+abbrev pub IsFinerAt : Combining → (Substitution → Type 0) → Ended → Type 0
+IsFinerAt k ToCome (OfBasis f system) = IsFinerToCome k.declarations k.given f system ToCome
+IsFinerAt k ToCome (OfSize list) = Unit {0}
 
 -- g covers u, with its least sorts
 abbrev pub IsCovered : Combining → Bindings → Substitution → Type 0
@@ -55,13 +61,15 @@ module _ (before after : Search) where
     pub running : after.ended ≡ None
 
   -- what an answer of a search that has not ended says: a unifier, the end of all, a cause that holds and is kept, or want of memory,
-  -- at which the same are to come and nothing has ended; a sum system is the cause only where no question is open
+  -- at which the same are to come and nothing has ended; a sum system is the cause only where no question is open, and then what
+  -- is to come has all that is decided in the last state, or has apart two nodes that this state has together
   abbrev pub IsAdvanced : Result (Option Bindings) CombineEnd → Type 0
   IsAdvanced (Ok (Some g)) = IsGivenNext g
   IsAdvanced (Ok None) = IsOver
   IsAdvanced (Err (Basis f system)) =
       IsBasisCause before.combining.declarations before.combining.given f system × IsRefusedAtLast before.combining after.states f system
-      × IsEndedBy (OfBasis f system)
+      × HasNoChoice before.combining after.leaf
+      × IsFinerToCome before.combining.declarations before.combining.given f system (IsToCome after) × IsEndedBy (OfBasis f system)
   IsAdvanced (Err (Size list)) = IsTooLarge before.combining.declarations before.combining.given before.combining.size list.bindings × IsEndedBy (OfSize list)
   IsAdvanced (Err NoMemory) = (after.ended ≡ before.ended) × IsToComeAsBefore
 

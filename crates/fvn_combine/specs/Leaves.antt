@@ -5,6 +5,7 @@ use Rattle.fvn_terms.specs.Substitution.{Substitution}
 use Rattle.fvn_lindio.specs.declared.system.Solution.{Solution}
 use Rattle.fvn_flat.specs.Solving.{problem_of}
 use Rattle.fvn_combine_nodes.specs.States.{class_of}
+use Rattle.fvn_combine_nodes.specs.Unifiers.{value_at}
 use Rattle.fvn_combine_nodes.specs.declared.state.State.{State}
 use Rattle.fvn_combine_leaves.specs.Leaves.{IsLeaf}
 use Rattle.fvn_combine_leaves.specs.Readings.{IsReading}
@@ -14,11 +15,14 @@ use Rattle.fvn_acunify_product.specs.Wheels.{PendingChoices}
 use Rattle.fvn_combine_choices.specs.Choosing.{Choice}
 use Rattle.fvn_combine_admissible.specs.Listed.{tag_in, systems_of, choice_of}
 use Rattle.fvn_combine_complete.specs.CoveringChoices.{IsCovering}
+use Rattle.fvn_combine_complete.specs.Obeying.{ObeyTags}
 use Rattle.fvn_combine_bounds.specs.Narrow.{KeepsBounds}
 use Rattle.fvn_combine_leaves.specs.Bases.{AreBases}
 use Rattle.fvn_combine_candidates.specs.Sharing.{AreSharedClasses}
 use Rattle.fvn_combine_candidates.specs.Tags.{tag_counts, AreTags}
 use Rattle.fvn_combine_candidates.specs.Turning.{AreWheels}
+use Rattle.fvn_combine_inferring.specs.Inferred.{TellHeads}
+use Rattle.fvn_combine_inferring.specs.Sorted.{GoWithSorts}
 use Rattle.fvn_combine_triangular.specs.Ready.{IsReady}
 use Rattle.fvn_combine.specs.Tasks.{Combining}
 use Rattle.fvn_combine_candidates.specs.declared.sharing.SharedClass.{SharedClass}
@@ -33,10 +37,12 @@ module _ (k : Combining) (s : State) where
       pub are_tags : AreTags shared options v.tags
       pub are_wheels : AreWheels k.declarations k.table (class_of s) (tag_in v.tags) r.sums bases v.wheels.wheels
 
-    -- the choice covers u, and keeps to what sorts ask where they are heeded
+    -- the choice covers u, and keeps to what sorts ask where they are heeded; u's values go with the state, and obey its tags
     pub record IsSortedCovering (u : Substitution) (c : Choice) : Type 0 where
       pub covering : IsCovering k.declarations (problem_of k.given) k.table s (systems_of r bases) u c
       pub bounds : k.sorted ≡ true → KeepsBounds k.declarations k.table (class_of s) (systems_of r bases) c
+      pub values : GoWithSorts k.declarations k.table s k.sorted (value_at k.declarations u k.table.nodes)
+      pub tagged : ObeyTags k.declarations k.table (class_of s) c.tag (value_at k.declarations u k.table.nodes)
 
     -- the choice of these tags and numbers does so
     abbrev pub IsCoveredBy : List (Option OpId) → List ℕ → Substitution → Type 0
@@ -69,11 +75,13 @@ module _ (k : Combining) (s : State) where
   abbrev pub IsCoveredToCome : Opened → Substitution → Type 0
   IsCoveredToCome o u = IsCoveredNow o u ⊎ IsCoveredLater o u
 
-  -- what is read of the leaf, its minimal solutions, its shared classes and their tags, and the wheels under current tags
+  -- what is read of the leaf and known of its classes, its minimal solutions, its shared classes and their tags, and the wheels under current tags
   pub record IsOpened (o : Opened) : Type 0 where
     pub ready : IsReady k.declarations k.given k.first k.table s
     pub leaf : IsLeaf k.declarations k.table s
     pub reading : IsReading k.declarations k.table (class_of s) o.reading
+    pub known : TellHeads k.declarations k.table s o.known.sorted o.known.heads.items
+    pub sorted : o.known.sorted ≡ k.sorted
     pub bases : AreBases o.reading.sums o.bases
     pub shared : AreSharedClasses k.declarations k.table (class_of s) k.sorted o.shared
     pub counts : o.tags.counts ≡ tag_counts o.shared

@@ -3,6 +3,7 @@ pub mod Tasks
 pub mod Leaves
 pub mod Endings
 pub mod Search
+pub mod Coarser
 pub mod Advancing
 pub mod Work
 pub mod inner

@@ -1,11 +1,11 @@
 -- The search for all unifiers on kinds, and what is still to come of them.
-use Rattle.std.specs.Prelude.{◌≡◌, ◌⊎◌, ℕ, List, [], ◌∷◌, ◌++◌, Option, Some, None, Any}
+use Rattle.std.specs.Prelude.{◌≡◌, ◌≢◌, ◌⊎◌, ℕ, ◌<◌, List, [], ◌∷◌, ◌++◌, length, Option, Some, None, Any}
 use Rattle.fvn_terms.specs.declared.plain.OpId.{OpId}
 use Rattle.fvn_terms.specs.Substitution.{Substitution}
 use Rattle.fvn_lindio.specs.declared.system.System.{System}
 use Rattle.fvn_flat.specs.Solving.{IsBasisCause, IsRefused, IsTooLarge}
 use Rattle.fvn_combine_nodes.specs.States.{Admits, class_of}
-use Rattle.fvn_combine_nodes.specs.Trees.{AreClosed}
+use Rattle.fvn_combine_nodes.specs.Trees.{AreClosed, AreInOrder}
 use Rattle.fvn_combine_nodes.specs.Unifiers.{kernel}
 use Rattle.fvn_combine_nodes.specs.declared.state.State.{State}
 use Rattle.fvn_combine_systems.specs.NodeSystems.{IsNodeSystem}
@@ -35,12 +35,30 @@ pub record IsRefusedAt (k : Combining) (s : State) (f : OpId) (system : System) 
   pub is_system : IsNodeSystem k.table (class_of s) f columns system
   pub refused : IsRefused system
 
--- so it is in the last of the states
+-- the classes have apart two nodes that the state has together
+pub record PartsNodesOf (s : State) (class : ℕ → ℕ) : Type 0 where
+  pub first : ℕ
+  pub second : ℕ
+  pub first_within : first < length s.names
+  pub second_within : second < length s.names
+  pub together : class_of s first ≡ class_of s second
+  pub apart : class first ≢ class second
+
+-- the classes have all that is decided in the state, or have apart two nodes that the state has together
+abbrev pub AdmitsOrIsParted : State → (ℕ → ℕ) → Type 0
+AdmitsOrIsParted s class = Admits s class ⊎ PartsNodesOf s class
+
+-- some state admits u's partition
+abbrev pub IsAdmitted : Combining → List State → Substitution → Type 0
+IsAdmitted k states u = Any (λ s. Admits s (kernel k.declarations u k.table.nodes)) states
+
+-- so it is in the last of the states; those before it admit only what has apart two nodes that this one has together
 pub record IsRefusedAtLast (k : Combining) (states : List State) (f : OpId) (system : System) : Type 0 where
   pub below : List State
   pub last : State
   pub is : states ≡ below ++ last ∷ []
   pub refused : IsRefusedAt k last f system
+  pub coarser_first : (u : Substitution) → IsAdmitted k states u → AdmitsOrIsParted last (kernel k.declarations u k.table.nodes)
 
 -- where a sum system is refused, no question is open in the state at which the search ends
 abbrev pub HasNoQuestion : Combining → List State → Ended → Type 0
@@ -52,21 +70,27 @@ abbrev pub IsOpenedAt : Combining → Option Leaf → Type 0
 IsOpenedAt k None = Unit {0}
 IsOpenedAt k (Some w) = IsOpened k w.state w.opened
 
--- all states are closed, the leaf is open, and what ended the search is so
+-- all states are closed and in order, the leaf is open, and what ended the search is so
 pub record IsSearch (m : Search) : Type 0 where
   pub combining : IsCombining m.combining
   pub closed : AreClosed m.combining.declarations m.combining.table m.states
+  pub ordered : AreInOrder m.states
   pub opened : IsOpenedAt m.combining m.leaf
   pub end : (e : Ended) → m.ended ≡ Some e → IsEnd m.combining e
-
--- some state admits u's partition
-abbrev pub IsAdmitted : Combining → List State → Substitution → Type 0
-IsAdmitted k states u = Any (λ s. Admits s (kernel k.declarations u k.table.nodes)) states
 
 -- the leaf's state admits u's partition, and a choice of the leaf that is still to come covers u
 abbrev pub IsCoveredAt : Combining → Option Leaf → Substitution → Type 0
 IsCoveredAt k None u = ⊥
 IsCoveredAt k (Some w) u = Admits w.state (kernel k.declarations u k.table.nodes) × IsCoveredToCome k w.state w.opened u
+
+-- no choice of the leaf that is still to come covers anything
+abbrev pub HasNoChoice : Combining → Option Leaf → Type 0
+HasNoChoice k leaf = (u : Substitution) → IsCoveredAt k leaf u → ⊥
+
+-- so it is where a sum system is refused
+abbrev pub HasNoChoiceAt : Combining → Option Leaf → Ended → Type 0
+HasNoChoiceAt k leaf (Basis f system) = HasNoChoice k leaf
+HasNoChoiceAt k leaf (Size list) = Unit {0}
 
 -- u is still to come
 abbrev pub Pending : Search → Substitution → Type 0

@@ -2,3 +2,4 @@
 pub mod Found
 pub mod Parts
 pub mod Alike
+pub mod Against

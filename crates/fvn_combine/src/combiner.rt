@@ -16,7 +16,8 @@ use crate::ending::{CombineEnd, Ended, told};
 use crate::opened::Leaf;
 use crate::stepping::{Found, next_unifier};
 use crate::task::Task;
-use fvn_combine_nodes::{Tree, unifiers_partition};
+use fvn_combine_nodes::{Tree, node_partitions_are_partitions, unifiers_partition};
+use fvn_combine_systems::node_systems_are_sum_systems;
 use fvn_flat::{Pairs, Subst};
 use fvn_signature::Signature;
 use fvn_terms::NoMemory;
@@ -73,6 +74,9 @@ fn next_of_parts(
         work_left (search_by task.now tree.new leaf.new ended.new)
         < work_left (search_by task.now tree.old leaf.old ended.old))) }
 {
+    node_partitions_are_partitions();
+    node_systems_are_sum_systems();
+    unifiers_partition();
     match next_unifier(task, tree, leaf)? {
         Found::Nothing => Ok(None),
         Found::Ends(cause) => {

@@ -1,6 +1,7 @@
 //! All unifiers of a problem on kinds, one after another, modulo any mix of free, C, AC and ACU operators.
 #![tactic(auto)]
 
+mod against;
 mod combiner;
 mod ending;
 mod kinds;

@@ -1,5 +1,5 @@
 //! What the top of a decision tree asks for.
-ghost use Rattle.std.specs.Prelude.{◌<◌, length, IfOk};
+ghost use Rattle.std.specs.Prelude.{◌≡◌, ◌<◌, length, IfOk};
 ghost use Rattle.fvn_combine_nodes.specs.Trees.{AreClosed};
 ghost use Rattle.fvn_combine_nodes.specs.States.{IsClosed, IsOpen, class_of};
 ghost use Rattle.fvn_combine_leaves.specs.Bases.{AreBases};
@@ -16,8 +16,8 @@ use fvn_base::Seq;
 use fvn_combine_bounds::sorted_leaves_cover;
 use fvn_combine_candidates::{OpenFault, bases, bases_make_systems, refusals_are_causes};
 use fvn_combine_choices::classes_have_one_kind;
-use fvn_combine_complete::{readings_tell, tables_have_sums, unifiers_go_with};
-use fvn_combine_inferring::{Inferred, differ, heads_of_values, infer};
+use fvn_combine_complete::{readings_tell, tables_have_sums};
+use fvn_combine_inferring::{Inferred, Known, differ, infer, known_of, sorted_unifiers_go_with};
 use fvn_combine_leaves::{Reading, first_question, question_on_all, question_on_touched, read};
 use fvn_combine_nodes::{State, Tree};
 use fvn_combine_systems::{tables_are_small, tables_hold_arguments};
@@ -48,26 +48,33 @@ fn look_at_leaf(
     task: &Task,
     state: &State,
     reading: Reading,
+    known: Known,
     bases: Vec<Seq<Solution>>,
 ) -> Result<Looked, NoMemory>
     requires leaf { IsLeaf task.now.declarations task.now.table state.now }
     requires kinds { AreOfOneKind task.now.declarations task.now.table (class_of state.now) }
     requires reading { IsReading task.now.declarations task.now.table (class_of state.now) reading }
+    requires heads { TellHeads task.now.declarations task.now.table state.now known.sorted
+        known.heads.items }
+    requires sorted { known.sorted ≡ task.now.sorted }
     requires bases { AreBases reading.sums bases.items }
     ensures { IfOk result (IsLookedAt task.now state.now) }
 {
     task.recall();
     bases_make_systems();
     sorted_leaves_cover();
+    sorted_unifiers_go_with();
     readings_tell();
-    let leaf = open(task, state, reading, bases)?;
+    let leaf = open(task, state, reading, known, bases)?;
     Ok(Looked::Leaf(leaf))
 }
 
 // An open question, or that all unifiers say no to it.
-fn asked(task: &Task, state: &State, heads: &[Option<OpId>], i: usize, j: usize) -> Looked
+fn asked(task: &Task, state: &State, known: &Known, i: usize, j: usize) -> Looked
     requires closed { IsClosed task.now.declarations task.now.table state.now }
-    requires heads { TellHeads task.now.declarations task.now.table state.now heads.now }
+    requires heads { TellHeads task.now.declarations task.now.table state.now known.now.sorted
+        known.now.heads.items }
+    requires sorted { known.now.sorted ≡ task.now.sorted }
     requires left { i < length task.now.table.nodes }
     requires right { j < length task.now.table.nodes }
     requires open { IsOpen state.now i j }
@@ -75,8 +82,8 @@ fn asked(task: &Task, state: &State, heads: &[Option<OpId>], i: usize, j: usize)
 {
     task.recall();
     tables_have_sums();
-    unifiers_go_with();
-    if differ(task.sig, &task.table, state, heads, i, j) {
+    sorted_unifiers_go_with();
+    if differ(task.sig, &task.table, state, known, i, j) {
         return Looked::Apart(i, j);
     }
     Looked::Open(i, j)
@@ -87,11 +94,13 @@ fn look_at_near_leaf(
     task: &Task,
     state: &State,
     reading: Reading,
-    heads: &[Option<OpId>],
+    known: Known,
 ) -> Result<Looked, NoMemory>
     requires near { IsNearLeaf task.now.declarations task.now.table state.now }
     requires reading { IsReading task.now.declarations task.now.table (class_of state.now) reading }
-    requires heads { TellHeads task.now.declarations task.now.table state.now heads.now }
+    requires heads { TellHeads task.now.declarations task.now.table state.now known.sorted
+        known.heads.items }
+    requires sorted { known.sorted ≡ task.now.sorted }
     ensures { IfOk result (IsLookedAt task.now state.now) }
 {
     task.recall();
@@ -104,15 +113,15 @@ fn look_at_near_leaf(
         Err(OpenFault::NoMemory) => Err(NoMemory),
         Err(OpenFault::Basis(f, system)) => {
             match question_on_all(task.sig, &task.table, state, &reading) {
-                Some(pair) => Ok(asked(task, state, heads, pair.0, pair.1)),
+                Some(pair) => Ok(asked(task, state, &known, pair.0, pair.1)),
                 None => Ok(Looked::Refused(f, system)),
             }
         }
         Ok(bases) => {
             match question_on_touched(task.sig, &task.table, state, &reading, bases.as_slice()) {
-                Some(pair) => Ok(asked(task, state, heads, pair.0, pair.1)),
+                Some(pair) => Ok(asked(task, state, &known, pair.0, pair.1)),
                 None => {
-                    let looked = look_at_leaf(task, state, reading, bases)?;
+                    let looked = look_at_leaf(task, state, reading, known, bases)?;
                     Ok(looked)
                 }
             }
@@ -125,17 +134,19 @@ fn look_further(
     task: &Task,
     state: &State,
     reading: Reading,
-    heads: &[Option<OpId>],
+    known: Known,
 ) -> Result<Looked, NoMemory>
     requires closed { IsClosed task.now.declarations task.now.table state.now }
     requires reading { IsReading task.now.declarations task.now.table (class_of state.now) reading }
-    requires heads { TellHeads task.now.declarations task.now.table state.now heads.now }
+    requires heads { TellHeads task.now.declarations task.now.table state.now known.sorted
+        known.heads.items }
+    requires sorted { known.sorted ≡ task.now.sorted }
     ensures { IfOk result (IsLookedAt task.now state.now) }
 {
     match first_question(task.sig, &task.table, state, &reading) {
-        Some((i, j)) => Ok(asked(task, state, heads, i, j)),
+        Some((i, j)) => Ok(asked(task, state, &known, i, j)),
         None => {
-            let looked = look_at_near_leaf(task, state, reading, heads)?;
+            let looked = look_at_near_leaf(task, state, reading, known)?;
             Ok(looked)
         }
     }
@@ -150,22 +161,22 @@ fn look_at(task: &Task, state: &State) -> Result<Looked, NoMemory>
     tables_hold_arguments();
     tables_are_small();
     tables_have_sums();
-    unifiers_go_with();
+    sorted_unifiers_go_with();
     let reading = read(task.alloc, task.sig, &task.table, state)?;
-    let heads = heads_of_values(task.alloc, task.sig, &task.table, state, &reading)?;
-    match infer(
+    let known = known_of(
         task.alloc,
         task.sig,
         &task.table,
         state,
         &reading,
-        heads.as_slice(),
-    )? {
+        task.sorted,
+    )?;
+    match infer(task.alloc, task.sig, &task.table, state, &reading, &known)? {
         Inferred::Impossible => Ok(Looked::Passed),
         Inferred::Together(i, j) => Ok(Looked::Together(i, j)),
         Inferred::Question(i, j) => Ok(Looked::Open(i, j)),
         Inferred::Nothing => {
-            let looked = look_further(task, state, reading, heads.as_slice())?;
+            let looked = look_further(task, state, reading, known)?;
             Ok(looked)
         }
     }

@@ -1,11 +1,12 @@
 //! Leaves that are open.
-ghost use Rattle.std.specs.Prelude.{◌*◌, ◌≤◌, IfOk};
+ghost use Rattle.std.specs.Prelude.{◌≡◌, ◌*◌, ◌≤◌, IfOk};
 ghost use Rattle.fvn_terms.specs.Substitution.{Substitution};
 ghost use Rattle.fvn_combine_nodes.specs.States.{class_of};
 ghost use Rattle.fvn_combine_leaves.specs.Leaves.{IsLeaf};
 ghost use Rattle.fvn_combine_leaves.specs.Readings.{IsReading};
 ghost use Rattle.fvn_combine_choices.specs.Choosing.{Choice as InChoice};
 ghost use Rattle.fvn_combine_leaves.specs.Bases.{AreBases};
+ghost use Rattle.fvn_combine_inferring.specs.Inferred.{TellHeads};
 ghost use Rattle.fvn_combine_triangular.specs.Ready.{IsReady};
 ghost use Rattle.fvn_combine.specs.Leaves.{IsSortedCovering, IsOpened, IsCoveredToCome};
 ghost use Rattle.fvn_combine.specs.Work.{most_tags, most_numbers, leaf_left};
@@ -16,6 +17,7 @@ use fvn_base::Seq;
 use fvn_combine_candidates::{
     SharedClass, covering_choices_are_listed, option_counts, shared, sum_operators_are_few,
 };
+use fvn_combine_inferring::Known;
 use fvn_combine_leaves::Reading;
 use fvn_combine_nodes::State;
 use fvn_combine_systems::tables_are_small;
@@ -33,6 +35,7 @@ pub(crate) struct Turning {
 #[derive(Drop)]
 pub(crate) struct Opened {
     pub(crate) reading: Reading,
+    pub(crate) known: Known,
     pub(crate) bases: Seq<Seq<Solution>>,
     pub(crate) shared: Seq<SharedClass>,
     pub(crate) tags: Tags,
@@ -51,11 +54,15 @@ pub(crate) fn open(
     task: &Task,
     state: &State,
     reading: Reading,
+    known: Known,
     bases: Vec<Seq<Solution>>,
 ) -> Result<Opened, NoMemory>
     requires ready { IsReady task.now.declarations task.now.given task.now.first task.now.table state.now }
     requires leaf { IsLeaf task.now.declarations task.now.table state.now }
     requires reading { IsReading task.now.declarations task.now.table (class_of state.now) reading }
+    requires known { TellHeads task.now.declarations task.now.table state.now known.sorted
+        known.heads.items }
+    requires sorted { known.sorted ≡ task.now.sorted }
     requires bases { AreBases reading.sums bases.items }
     ensures opened { IfOk result (IsOpened task.now state.now) }
     ensures all { IfOk result (λ o. (u : Substitution) (c : InChoice)
@@ -79,6 +86,7 @@ pub(crate) fn open(
     let tags = Tags::new(task.alloc, counts)?;
     Ok(Opened {
         reading,
+        known,
         bases: Seq::from_vec(bases),
         shared: Seq::from_vec(classes),
         tags,

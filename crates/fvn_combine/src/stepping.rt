@@ -1,6 +1,6 @@
 //! One step of the search after another.
 ghost use Rattle.std.specs.Prelude.{◌≡◌, IfOk, OnErr};
-ghost use Rattle.fvn_combine_nodes.specs.Trees.{AreClosed};
+ghost use Rattle.fvn_combine_nodes.specs.Trees.{AreClosed, AreInOrder};
 ghost use Rattle.fvn_combine.specs.Search.{IsOpenedAt};
 ghost use Rattle.fvn_combine.specs.inner.Found.{IsStep, AreFound, IsLessLeft};
 ghost use Rattle.fvn_combine.specs.Work.{left_by};
@@ -40,7 +40,9 @@ pub(crate) enum Found {
 // Looks at the last state: asks its question, takes on a fact, passes it over, opens it, or says why the search ends.
 fn take_step(task: &Task, tree: &mut Tree, leaf: &mut Option<Leaf>) -> Result<Step, NoMemory>
     requires closed { AreClosed task.now.declarations task.now.table tree.old }
+    requires ordered { AreInOrder tree.old }
     ensures closed { AreClosed task.now.declarations task.now.table tree.new }
+    ensures ordered { AreInOrder tree.new }
     ensures stepped { IfOk result (IsStep task.now tree.old leaf.old tree.new leaf.new) }
     ensures no_memory { OnErr result ((tree.new ≡ tree.old) × (leaf.new ≡ leaf.old)) }
 {
@@ -86,8 +88,10 @@ pub(crate) fn next_unifier(
     leaf: &mut Option<Leaf>,
 ) -> Result<Found, NoMemory>
     requires closed { AreClosed task.now.declarations task.now.table tree.old }
+    requires ordered { AreInOrder tree.old }
     requires opened { IsOpenedAt task.now leaf.old }
     ensures closed { AreClosed task.now.declarations task.now.table tree.new }
+    ensures ordered { AreInOrder tree.new }
     ensures opened { IsOpenedAt task.now leaf.new }
     ensures found { AreFound task.now tree.old leaf.old tree.new leaf.new result }
     ensures falls { IfOk result (IsLessLeft (left_by task.now tree.old leaf.old)

@@ -12,6 +12,7 @@ ghost use Rattle.fvn_combine.specs.inner.Found.{AreDrawnFrom, IsSameButCurrent, 
 ghost use Rattle.fvn_combine.specs.Work.{leaf_left, left_at};
 ghost use Rattle.fvn_acunify_product.specs.Wheels.{choices_left};
 
+use crate::against::go_against;
 use crate::opened::{Leaf, Opened, Turning};
 use crate::task::Task;
 use fvn_base::Seq;
@@ -111,7 +112,7 @@ fn next_of_current(task: &Task, state: &State, opened: &mut Opened) -> Result<Dr
     }
 }
 
-// Goes on to the next tags, and answers whether there are any.
+// Goes on to the next tags, and answers whether there are any; those that go against what is known are passed over.
 fn turn(task: &Task, state: &State, opened: &mut Opened) -> Result<bool, NoMemory>
     requires opened { IsOpened task.now state.now opened.old }
     ensures turned { IfOk result (IsTurned task.now state.now opened.old opened.new) }
@@ -131,6 +132,16 @@ fn turn(task: &Task, state: &State, opened: &mut Opened) -> Result<bool, NoMemor
         opened.shared.as_slice(),
         options,
     )?;
+    if go_against(
+        task.sig,
+        opened.shared.as_slice(),
+        opened.known.heads.as_slice(),
+        tags.as_slice(),
+    ) {
+        opened.tags.advance();
+        opened.turning = None;
+        return Ok(true);
+    }
     let wheels = wheels(
         task.alloc,
         task.sig,

@@ -1,4 +1,4 @@
--- A unifier is covered by the choice that its values obey, which keeps to what sorts ask.
+-- A unifier is covered by the choice that its values obey, tags and all, which keeps to what sorts ask.
 use Rattle.fvn_combine_nodes.specs.Unifiers.{value_at}
 use Rattle.fvn_combine_complete.specs.Laws.{UnifiersGoWith, TablesHaveSums, ValuesObeyChoices, ObeyedChoicesFall, ObeyedChoicesCover}
 use Rattle.fvn_combine_bounds.specs.Laws.{ObeyedChoicesKeepBounds, SortedLeavesCover}
@@ -30,4 +30,5 @@ sorted_cover go_with sums obey fall cover keep d good problem kinded t made tabl
             admits = admits;
           }
           y c chosen.3,
+      chosen.3.tags,
     )

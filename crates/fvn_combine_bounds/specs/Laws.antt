@@ -73,8 +73,8 @@ abbrev pub NeutralOperatorsAdmitSums : Type 0
 NeutralOperatorsAdmitSums =
     (d : Declarations) → IsGood d → (f : OpId) → IsNeutral d f → (s : SortId) → IsOfKind d f s → AdmitsSum d f s
 
--- at a leaf that admits its partition, each unifier on kinds is covered by some choice; where it gives the problem's
--- variables terms of their sorts, by one that keeps to what sorts ask
+-- at a leaf that admits its partition, each unifier on kinds is covered by some choice, whose tags its values obey; where
+-- it gives the problem's variables terms of their sorts, the choice keeps to what sorts ask
 abbrev pub SortedLeavesCover : Type 0
 SortedLeavesCover =
     (d : Declarations) → IsGood d → (problem : Problem) → IsProblem d problem
@@ -83,3 +83,4 @@ SortedLeavesCover =
     → (u : Substitution) → IsKindUnifier d problem u → Admits s (kernel d u t.nodes)
     → (c : Choice) × IsCovering d problem t s y u c
     × (KeepsSorts d (variables_of problem) u → KeepsBounds d t (class_of s) y c)
+    × ObeyTags d t (class_of s) c.tag (value_at d u t.nodes)

@@ -46,7 +46,7 @@ pub covering_listed : (d : Declarations) (problem : Problem) (t : NodeTable) (s 
     → (y : Systems) (u : Substitution) (c : Choice) → IsCovering d problem t s y u c → (sorted ≡ true → KeepsBounds d t (class_of s) y c)
     → (options : List ℕ) × (numbers : List ℕ) × AllZip IsOption (tag_counts shared) options × (length numbers ≡ length r.sums)
     × ((tags : List (Option OpId)) → AreTags shared options tags → IsCovering d problem t s y u (choice_of r tags numbers)
-    × (sorted ≡ true → KeepsBounds d t (class_of s) y (choice_of r tags numbers)))
+    × (sorted ≡ true → KeepsBounds d t (class_of s) y (choice_of r tags numbers)) × ((k : ℕ) → tag_in tags k ≡ c.tag k))
 covering_listed d problem t s r reading sorted shared are y u c h keeps =
     let may : (k : ℕ) (f : OpId) → c.tag k ≡ Some f → IsShared d t (class_of s) k × MayBeSum d t (class_of s) sorted f k =
     λ k f e. let u = h.possible.tags k f e in (u.0, (u.1, λ heeded narrow. (keeps heeded).untagged f k u.0 u.1 narrow e)) in
@@ -62,5 +62,6 @@ covering_listed d problem t s r reading sorted shared are y u c h keeps =
             subst (λ tag. IsCovering d problem t s y u (record { tag = tag; number = at_operator 0 r.sums numbers })) same moved,
             λ heeded. subst (λ tag. KeepsBounds d t (class_of s) y (record { tag = tag; number = at_operator 0 r.sums numbers })) same
                 (bounds_to d t (class_of s) y c.tag c.number (at_operator 0 r.sums numbers) (listed_number d t (class_of s) r reading c.number) (keeps heeded)),
+            λ k. are_tags k ∙ n.are k,
           ),
     )

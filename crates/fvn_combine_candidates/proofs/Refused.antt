@@ -77,11 +77,3 @@ fault_at sums n bases e l at h (Basis f system) of = record {
   first = λ i x m is. (h.each i x m is).kept;
 }
 fault_at sums n bases e l at h OutOfMemory of = tt
-
--- the solver of choices finds no fault in a system that is not refused
-pub no_fault : (result : Result Cursor OneFault) (given : OneFault) (fault : LinFault) → result ≡ Err given → given ≡ Unsolved fault → (y s : System) → y ≡ s → (IsRefused s → ⊥)
-    → (result ≢ Err NoRoom → (k : LinFault) → (result ≡ Err (Unsolved k)) ↔ IsRefusal y.columns (rows_of y) MINIMAL_SOLUTIONS k) → ⊥
-no_fault result given fault is which y s same kept refused =
-    let at : result ≡ Err (Unsolved fault) = is ∙ ap Err which in
-    let had : result ≢ Err NoRoom = λ e. (let f : Err (Unsolved fault) ≡ Err NoRoom = sym at ∙ e in cc) in
-    not_refused s kept fault (subst (λ (x : System). IsRefusal x.columns (rows_of x) MINIMAL_SOLUTIONS fault) same ((refused had fault).0 at))

@@ -73,7 +73,7 @@ SortedChoicesAreWithin =
     → (sorted ≡ true → KeepsBounds d t class (systems_of r bases) (choice_of r tags numbers)) → AreWithin wheels numbers
 
 -- a choice that covers a unifier, and keeps to what sorts ask where they are heeded, can be listed: by an option for each shared class, and a number
--- for each sum operator; what is listed keeps to it too
+-- for each sum operator; what is listed keeps to it too, and has the choice's tags
 abbrev pub CoveringChoicesAreListed : Type 0
 CoveringChoicesAreListed =
     (d : Declarations) (problem : Problem) (t : NodeTable) → IsWellMade t → (s : State) → IsClosed d t s → (r : Reading) → IsReading d t (class_of s) r
@@ -81,7 +81,7 @@ CoveringChoicesAreListed =
     → (y : Systems) (u : Substitution) (c : Choice) → IsCovering d problem t s y u c → (sorted ≡ true → KeepsBounds d t (class_of s) y c)
     → (options : List ℕ) × (numbers : List ℕ) × AllZip IsOption (tag_counts shared) options × (length numbers ≡ length r.sums)
     × ((tags : List (Option OpId)) → AreTags shared options tags → IsCovering d problem t s y u (choice_of r tags numbers)
-    × (sorted ≡ true → KeepsBounds d t (class_of s) y (choice_of r tags numbers)))
+    × (sorted ≡ true → KeepsBounds d t (class_of s) y (choice_of r tags numbers)) × ((k : ℕ) → tag_in tags k ≡ c.tag k))
 
 -- at a leaf that admits its partition, each unifier on kinds, which keeps the sorts of the problem's variables where sorts are heeded, is covered by a
 -- choice that can be listed: by an option for each shared class, and, under their tags, by numbers that are choices of the wheels and make no class an alias

@@ -14,7 +14,7 @@ ghost use Rattle.fvn_combine_leaves.specs.Bases.{IsBasis, AreBases};
 ghost use Rattle.fvn_combine_candidates.specs.Turning.{IsWheel, AreWheels, HasBounds, HaveBounds};
 
 use crate::neutral::is_neutral;
-use fvn_acunify::{Choices, OneFault, solve_one};
+use fvn_acunify::{Choices, choices_among};
 use fvn_acunify_product::Wheels;
 use fvn_base::Seq;
 use fvn_combine_admissible::theory;
@@ -41,7 +41,7 @@ fn listed(sig: &Signature, f: OpId, mut choices: Choices) -> Choices
     choices
 }
 
-// The choices for a sum operator, without bounds.
+// The choices for a sum operator among its minimal solutions, without bounds.
 fn choices_of(
     alloc: Global,
     sig: &Signature,
@@ -60,12 +60,10 @@ fn choices_of(
         sums.now basis.now (wheel_of c)) }
     ensures bounds { IfOk result (λ c. c.bounds ≡ unbounded) }
 {
-    let _basis = basis;
     let theory = theory(alloc, sig, table, state, reading, tags, sums)?;
-    match solve_one(alloc, &theory) {
+    match choices_among(alloc, &theory, basis) {
         Ok(choices) => Ok(listed(sig, sums.operator, choices)),
-        Err(OneFault::NoMemory) => Err(NoMemory),
-        Err(OneFault::Basis(_)) => unreachable!(),
+        Err(_) => Err(NoMemory),
     }
 }
 

@@ -3,7 +3,7 @@ pub mod Triangular
 pub mod Kinded
 mod Places
 pub mod Columns
-mod Using
+pub mod Using
 pub mod Solids
 mod Valid
 mod Planned

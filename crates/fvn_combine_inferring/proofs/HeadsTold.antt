@@ -1,6 +1,6 @@
 -- Lists of operators that head values.
-use Rattle.std.proofs.Common.{◌≡◌, ℕ, ◌<◌, ◌≤◌, List, [], ◌∷◌, length, get_or, set, refl, sym, ap, ◌∙◌, inl, inr, arith, Option, Some, None}
-use Rattle.std.specs.Prelude.{sum_by}
+use Rattle.std.proofs.Common.{◌≡◌, ℕ, ◌<◌, ◌≤◌, List, [], ◌∷◌, length, get_or, set, refl, sym, ap, ◌∙◌, subst, inl, inr, arith, Option, Some, None}
+use Rattle.std.specs.Prelude.{Bool, sum_by}
 use Rattle.std.proofs.lemmas.Bool.{cases_eq}
 use Rattle.std.proofs.lemmas.List.{length-set, get_or-set_same, get_or-set_other}
 use Rattle.std.proofs.lemmas.List.Sums.{sum_by-cons}
@@ -13,42 +13,51 @@ use Rattle.fvn_combine_nodes.specs.States.{IsClosed, class_of}
 use Rattle.fvn_combine_nodes.specs.declared.state.State.{State}
 use Rattle.fvn_combine_leaves.specs.Readings.{AreHeads}
 use Rattle.fvn_combine_choices.specs.Tables.{HasSums}
-use Rattle.fvn_combine_complete.specs.Obeying.{GoWith}
+use Rattle.fvn_combine_complete.specs.Obeying.{IsSumOf}
+use Rattle.fvn_combine_inferring.specs.Sorted.{GoWithSorts}
 use Rattle.fvn_combine_inferring.specs.Rows.{many, AreSides}
 use Rattle.fvn_combine_inferring.specs.inner.Bounds.{HasTwoSummands}
 use Rattle.fvn_combine_inferring.proofs.Values.{head_of_solid}
-use Rattle.fvn_combine_inferring.proofs.Headed.{large_head}
+use Rattle.fvn_combine_inferring.proofs.Headed.{large_sum}
 use Rattle.fvn_combine_inferring.proofs.Told.{same_many}
 use Rattle.fvn_combine_inferring.specs.Inferred.{TellHeads}
 
-module _ (d : Declarations) (t : NodeTable) (s : State) where
+module _ (d : Declarations) (t : NodeTable) (s : State) (sorted : Bool) where
   -- those that a reading notes
-  pub read_heads : HasSums d t → IsClosed d t s → (heads : List (Option OpId)) → AreHeads d t (class_of s) heads → TellHeads d t s heads
+  pub read_heads : HasSums d t → IsClosed d t s → (heads : List (Option OpId)) → AreHeads d t (class_of s) heads → TellHeads d t s sorted heads
   read_heads has closed heads are = record {
     as_many = are.as_many;
-    headed = λ k f l e values go. head_of_solid d t has s closed values go f k ((are.exact k f l).0 e);
+    joined = λ k f l e some values go. absurd (some ((are.exact k f l).0 e).no_identity);
+    headed = λ k f l e values go. head_of_solid d t has s closed values go.go f k ((are.exact k f l).0 e);
   }
 
   -- one more
-  pub more_heads : (heads : List (Option OpId)) (k : ℕ) (f : OpId) → k < length heads → TellHeads d t s heads → ((values : ℕ → FlatTerm) → GoWith d t s values → head_of (values k) ≡ Some f) → TellHeads d t s (set heads k (Some f))
+  pub more_heads : (heads : List (Option OpId)) (k : ℕ) (f : OpId) → k < length heads → TellHeads d t s sorted heads → ((values : ℕ → FlatTerm) → GoWithSorts d t s sorted values → IsSumOf f (values k)) → TellHeads d t s sorted (set heads k (Some f))
   more_heads heads k f l h new = record {
     as_many = length-set heads k (Some f) ∙ h.as_many;
+    joined = λ m g within e some values go. elim (cases_eq m k) [
+      | inl same ↦
+          let at : Some f ≡ Some g = sym (get_or-set_same heads k (Some f) None l) ∙ ap (λ x. get_or (set heads k (Some f)) x None) (sym same) ∙ e in
+          let one : f ≡ g = cc in
+          subst (λ (x : ℕ). IsSumOf g (values x)) (sym same) (subst (λ (o : OpId). IsSumOf o (values k)) one (new values go))
+      | inr other ↦ h.joined m g within (sym (get_or-set_other heads k m (Some f) None other) ∙ e) some values go
+    ];
     headed = λ m g within e values go. elim (cases_eq m k) [
       | inl same ↦
           let at : get_or (set heads k (Some f)) m None ≡ Some f = ap (λ x. get_or (set heads k (Some f)) x None) same ∙ get_or-set_same heads k (Some f) None l in
-          ap (λ x. head_of (values x)) same ∙ new values go ∙ sym at ∙ e
+          ap (λ x. head_of (values x)) same ∙ ap head_of (new values go).1 ∙ sym at ∙ e
       | inr other ↦ h.headed m g within (sym (get_or-set_other heads k m (Some f) None other) ∙ e) values go
     ];
   }
 
-  -- a class with two summands is headed by the operator
-  pub large_headed : (f : OpId) (i : ℕ) → HasTwoSummands d t s f i → (values : ℕ → FlatTerm) → GoWith d t s values → head_of (values (class_of s i)) ≡ Some f
-  large_headed f i two values go = large_head d f (values (class_of s i)) (two values go)
+  -- a class with two summands is a sum by the operator
+  pub large_joined : (f : OpId) (i : ℕ) → HasTwoSummands d t s sorted f i → (values : ℕ → FlatTerm) → GoWithSorts d t s sorted values → IsSumOf f (values (class_of s i))
+  large_joined f i two values go = large_sum d f (values (class_of s i)) (two values go)
 
   -- it has two where two classes that it adds have one for sure
-  pub two_summands : (f : OpId) (i n : ℕ) (list : List ℕ) → AreSides d t s f (i ∷ []) list → ((values : ℕ → FlatTerm) → GoWith d t s values → n ≤ sum_by (many d s f values) list) → 2 ≤ n → HasTwoSummands d t s f i
+  pub two_summands : (f : OpId) (i n : ℕ) (list : List ℕ) → AreSides d t s f (i ∷ []) list → ((values : ℕ → FlatTerm) → GoWithSorts d t s sorted values → n ≤ sum_by (many d s f values) list) → 2 ≤ n → HasTwoSummands d t s sorted f i
   two_summands f i n list sides least two values go =
-      let a = same_many d t s f values (i ∷ []) list (sides values go) in
+      let a = same_many d t s sorted f values (i ∷ []) list (sides values go.go) in
       let b = sum_by-cons (many d s f values) i [] in
       let z : sum_by (many d s f values) [] ≡ 0 = refl in
       let c = least values go in

@@ -5,4 +5,6 @@ mod Headed
 mod Values
 mod Sides
 mod Told
+mod Marks
+mod SortedValues
 mod HeadsTold

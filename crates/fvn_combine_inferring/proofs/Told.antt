@@ -10,6 +10,7 @@ use Rattle.fvn_terms.specs.declared.plain.OpId.{OpId}
 use Rattle.fvn_terms.specs.declared.declarations.Declarations.{Declarations}
 use Rattle.fvn_terms.specs.Signature.{axioms}
 use Rattle.fvn_forms.specs.Flat.{FlatTerm}
+use Rattle.fvn_forms.specs.Canon.{sum}
 use Rattle.fvn_forms.specs.InOrder.{one_if, count}
 use Rattle.fvn_forms.specs.Order.{same_flat}
 use Rattle.fvn_forms.proofs.Order.{same_flat_is, same_flat_itself}
@@ -21,11 +22,11 @@ use Rattle.fvn_combine_nodes.specs.States.{IsClosed, class_of, is_same, is_apart
 use Rattle.fvn_combine_nodes.specs.declared.state.State.{State}
 use Rattle.fvn_combine_nodes.proofs.Admitting.{decided}
 use Rattle.fvn_combine_choices.specs.Tables.{HasSums}
-use Rattle.fvn_combine_complete.specs.Obeying.{GoWith}
+use Rattle.fvn_combine_inferring.specs.Sorted.{GoWithSorts}
 use Rattle.fvn_combine_inferring.specs.Inferred.{HasNoValues, HaveOneValue, HaveTwoValues}
-use Rattle.fvn_combine_inferring.specs.Rows.{summands, times, many, HaveSameSummands, AreSides, IsSummand, IsAmong}
+use Rattle.fvn_combine_inferring.specs.Rows.{summands, times, many, HaveSameSummands, AreSides, HasFewSummands, IsSummand, IsAmong}
 use Rattle.fvn_combine_inferring.specs.inner.Splits.{IsUnitNode}
-use Rattle.fvn_combine_inferring.specs.inner.Bounds.{IsOrDiffers}
+use Rattle.fvn_combine_inferring.specs.inner.Bounds.{IsItOr}
 use Rattle.fvn_combine_inferring.proofs.Values.{nothing_value, bare_summand}
 
 scaled-lt : (n a b : ℕ) → a < b → suc n * a < suc n * b
@@ -76,10 +77,10 @@ kept_apart s i j n o = elim (decided s i j) [
     same_told : class_of s i ≡ class_of s j → is_same s i j ≡ true
     same_told e = eq-eqb (class_of s i) (class_of s j) e
 
-module _ (d : Declarations) (t : NodeTable) (s : State) where
+module _ (d : Declarations) (t : NodeTable) (s : State) (sorted : Bool) where
   -- no values go with a state that keeps apart what must meet
-  pub met_apart : (i j : ℕ) → i < length t.nodes → j < length t.nodes → HaveOneValue d t s i j → is_apart s i j ≡ true → HasNoValues d t s
-  met_apart i j l m equal apart values go = go.differ i j l m apart (equal values go)
+  pub met_apart : (i j : ℕ) → i < length t.nodes → j < length t.nodes → HaveOneValue d t s sorted i j → is_apart s i j ≡ true → HasNoValues d t s sorted
+  met_apart i j l m equal apart values go = go.go.differ i j l m apart (equal values go)
 
   module _ (f : OpId) where
     -- a summand of one of the classes is among all
@@ -98,29 +99,29 @@ module _ (d : Declarations) (t : NodeTable) (s : State) where
     nothing_each : (values : ℕ → FlatTerm) (xs : List ℕ) → HaveSameSummands d s f values xs [] → (i : ℕ) → i < length xs → summands d s f values (get_or xs i 0) ≡ []
     nothing_each values xs h i l = no_summand values (get_or xs i 0) (λ q. let a = times_one values q xs i l in let b = h q in let z : sum_by (times d s f values q) [] ≡ 0 = refl in omega (arith, a, b, z))
 
-    pub emptied_bare : HasSums d t → IsClosed d t s → HasNoIdentity (axioms d f) → (xs : List ℕ) → 0 < length xs → AreSides d t s f xs [] → HasNoValues d t s
+    pub emptied_bare : HasSums d t → IsClosed d t s → HasNoIdentity (axioms d f) → (xs : List ℕ) → 0 < length xs → AreSides d t s f xs [] → HasNoValues d t s sorted
     emptied_bare has closed bare xs some sides values go =
-        let none = ap length (nothing_each values xs (sides values go) 0 some) in
-        let one = bare_summand d t has s closed values go f (get_or xs 0 0) bare in
+        let none = ap length (nothing_each values xs (sides values go.go) 0 some) in
+        let one = bare_summand d t has s closed values go.go f (get_or xs 0 0) bare in
         omega (arith, none, one)
 
-    pub emptied_met : HasSums d t → IsClosed d t s → (n : ℕ) → IsUnitNode t f n → (xs : List ℕ) → AreSides d t s f xs [] → All (λ k. HaveOneValue d t s k n) xs
+    pub emptied_met : HasSums d t → IsClosed d t s → (n : ℕ) → IsUnitNode t f n → (xs : List ℕ) → AreSides d t s f xs [] → All (λ k. HaveOneValue d t s sorted k n) xs
     emptied_met has closed n unit xs sides i e l values go =
-        subst (λ k. values (class_of s k) ≡ values (class_of s n)) (get_or_default xs i 0 e l) (nothing_value d t has s closed values go f n (get_or xs i 0) unit (nothing_each values xs (sides values go) i l))
+        subst (λ k. values (class_of s k) ≡ values (class_of s n)) (get_or_default xs i 0 e l) (nothing_value d t has s closed values go.go f n (get_or xs i 0) unit (nothing_each values xs (sides values go.go) i l))
 
     -- one class as often as another
-    pub cancelled_met : (k l : ℕ) (xs ys : List ℕ) → 0 < length xs → length xs ≡ length ys → All (λ x. x ≡ k) xs → All (λ y. y ≡ l) ys → AreSides d t s f xs ys → HaveOneValue d t s k l
+    pub cancelled_met : (k l : ℕ) (xs ys : List ℕ) → 0 < length xs → length xs ≡ length ys → All (λ x. x ≡ k) xs → All (λ y. y ≡ l) ys → AreSides d t s f xs ys → HaveOneValue d t s sorted k l
     cancelled_met k l xs ys some long left right sides values go =
-        sym (sum_parts d f (values (class_of s k)) (go.are.settled (class_of s k)))
+        sym (sum_parts d f (values (class_of s k)) (go.go.are.settled (class_of s k)))
         ∙ sum_same_counts d f (summands d s f values k) (summands d s f values l) same
-        ∙ sum_parts d f (values (class_of s l)) (go.are.settled (class_of s l))
+        ∙ sum_parts d f (values (class_of s l)) (go.go.are.settled (class_of s l))
       where
         same : (q : FlatTerm) → times d s f values q k ≡ times d s f values q l
         same q =
             let w = times d s f values q in
             let a = sum_const w k xs left in
             let b = sum_const w l ys right in
-            let c = sides values go q in
+            let c = sides values go.go q in
             let e = ap (λ n. n * w l) long in
             scaled (length xs) (w k) (w l) some (sym a ∙ c ∙ b ∙ sym e)
 
@@ -157,19 +158,19 @@ module _ (d : Declarations) (t : NodeTable) (s : State) where
         let y = length_all values ys in
         omega (arith, e, a, b, x, y)
 
-    summands_many : (values : ℕ → FlatTerm) → GoWith d t s values → (ys : List ℕ) → All (IsSummand d t s f) ys → sum_by (many d s f values) ys ≡ length ys
-    summands_many values go [] h = refl
-    summands_many values go (y ∷ ys) h =
+    few_many : (values : ℕ → FlatTerm) → GoWithSorts d t s sorted values → (ys : List ℕ) → All (HasFewSummands d t s sorted f) ys → sum_by (many d s f values) ys ≤ length ys
+    few_many values go [] h = let z : sum_by (many d s f values) [] ≡ 0 = refl in omega (arith, z)
+    few_many values go (y ∷ ys) h =
         let a = sum_by-cons (many d s f values) y ys in
-        let b = ap length (All-head (IsSummand d t s f) y ys h values go) in
-        let c = summands_many values go ys (All-tail (IsSummand d t s f) y ys h) in
+        let b = All-head (HasFewSummands d t s sorted f) y ys h values go in
+        let c = few_many values go ys (All-tail (HasFewSummands d t s sorted f) y ys h) in
         omega (arith, a, b, c)
 
     -- more classes with a summand than there are summands
-    pub counted_out : (n : ℕ) (xs ys : List ℕ) → All (IsSummand d t s f) ys → ((values : ℕ → FlatTerm) → GoWith d t s values → n ≤ sum_by (many d s f values) xs) → length ys < n → AreSides d t s f xs ys → HasNoValues d t s
-    counted_out n xs ys single least more sides values go =
-        let a = same_many values xs ys (sides values go) in
-        let b = summands_many values go ys single in
+    pub counted_out : (n : ℕ) (xs ys : List ℕ) → All (HasFewSummands d t s sorted f) ys → ((values : ℕ → FlatTerm) → GoWithSorts d t s sorted values → n ≤ sum_by (many d s f values) xs) → length ys < n → AreSides d t s f xs ys → HasNoValues d t s sorted
+    counted_out n xs ys few least more sides values go =
+        let a = same_many values xs ys (sides values go.go) in
+        let b = few_many values go ys few in
         let c = least values go in
         omega (arith, a, b, c, more)
 
@@ -183,13 +184,26 @@ module _ (d : Declarations) (t : NodeTable) (s : State) where
     pub count_same : (values : ℕ → FlatTerm) (xs : List ℕ) (i n : ℕ) → i < length xs → n ≤ sum_by (many d s f values) (take i xs) → n ≤ sum_by (many d s f values) (take (i + 1) xs)
     count_same values xs i n l h = let a = sum_by_more (many d s f values) xs i 0 l in omega (arith, a, h)
 
-    -- a form is no summand of what is another one
-    other_times : (values : ℕ → FlatTerm) (q : FlatTerm) (k : ℕ) → summands d s f values k ≡ values (class_of s k) ∷ [] → q ≢ values (class_of s k) → times d s f values q k ≡ 0
-    other_times values q k one n = ap (count q) one ∙ go (same_flat q (values (class_of s k))) refl
+    -- a value with one summand at most, and with one at least, is its one summand
+    pub one_summand : (values : ℕ → FlatTerm) → GoWithSorts d t s sorted values → (k : ℕ) → many d s f values k ≤ 1 → 1 ≤ many d s f values k → summands d s f values k ≡ values (class_of s k) ∷ []
+    one_summand values go k few some = at (summands d s f values k) refl
       where
-        go : (b : Bool) → same_flat q (values (class_of s k)) ≡ b → one_if b + 0 ≡ 0
-        go true e = absurd (n (same_flat_is q (values (class_of s k)) e))
-        go false e = refl
+        at : (l : List FlatTerm) → summands d s f values k ≡ l → summands d s f values k ≡ values (class_of s k) ∷ []
+        at [] e = absurd (let n = ap length e in omega (arith, n, some))
+        at (q ∷ []) e = e ∙ ap (λ v. v ∷ []) (sym (ap (sum d f) e) ∙ sum_parts d f (values (class_of s k)) (go.go.are.settled (class_of s k)))
+        at (q ∷ r ∷ l) e = absurd (let n = ap length e in omega (arith, n, few))
+
+    -- a form is no summand of what is another one, and has one summand at most
+    other_times : (values : ℕ → FlatTerm) → GoWithSorts d t s sorted values → (q : FlatTerm) (k : ℕ) → many d s f values k ≤ 1 → q ≢ values (class_of s k) → times d s f values q k ≡ 0
+    other_times values go q k few n = at (summands d s f values k) refl
+      where
+        told : (b : Bool) → same_flat q (values (class_of s k)) ≡ b → one_if b + 0 ≡ 0
+        told true e = absurd (n (same_flat_is q (values (class_of s k)) e))
+        told false e = refl
+
+        at : (l : List FlatTerm) → summands d s f values k ≡ l → times d s f values q k ≡ 0
+        at [] e = ap (count q) e
+        at (r ∷ l) e = ap (count q) (one_summand values go k few (let m = ap length e in omega (arith, m))) ∙ told (same_flat q (values (class_of s k))) refl
 
     none_times : (values : ℕ → FlatTerm) (q : FlatTerm) (ys : List ℕ) → All (λ y. times d s f values q y ≡ 0) ys → sum_by (times d s f values q) ys ≡ 0
     none_times values q [] h = refl
@@ -201,20 +215,20 @@ module _ (d : Declarations) (t : NodeTable) (s : State) where
         omega (arith, a, b, c)
 
     -- a single summand that differs from all it is among
-    pub bag_out : (k : ℕ) (ys : List ℕ) → IsSummand d t s f k → All (IsSummand d t s f) ys → IsAmong d t s f k ys → All (HaveTwoValues d t s k) ys → HasNoValues d t s
-    bag_out k ys one single among differ values go =
+    pub bag_out : (k : ℕ) (ys : List ℕ) → IsSummand d t s sorted f k → All (HasFewSummands d t s sorted f) ys → IsAmong d t s f k ys → All (HaveTwoValues d t s sorted k) ys → HasNoValues d t s sorted
+    bag_out k ys one few among differ values go =
         let q = values (class_of s k) in
         let a = ap (count q) (one values go) in
         let b = count_itself q [] in
-        let c = among values go q in
-        let z = none_times values q ys (λ i e l. other_times values q (get_or ys i e) (single i e l values go) (differ i e l values go)) in
+        let c = among values go.go q in
+        let z = none_times values q ys (λ i e l. other_times values go q (get_or ys i e) (few i e l values go) (differ i e l values go)) in
         omega (arith, a, b, c, z)
 
     -- a single summand that differs from all it is among but one has the value of that one
-    pub bag_one : (k l : ℕ) (ys : List ℕ) → IsSummand d t s f k → All (IsSummand d t s f) ys → IsAmong d t s f k ys → All (IsOrDiffers d t s k l) ys → HaveOneValue d t s k l
-    bag_one k l ys one single among others values go = at (same_flat (values (class_of s k)) (values (class_of s l))) refl
+    pub bag_one : (k l : ℕ) (ys : List ℕ) → IsSummand d t s sorted f k → All (HasFewSummands d t s sorted f) ys → IsAmong d t s f k ys → All (IsItOr (HaveTwoValues d t s sorted k) l) ys → HaveOneValue d t s sorted k l
+    bag_one k l ys one few among others values go = at (same_flat (values (class_of s k)) (values (class_of s l))) refl
       where
-        differs : same_flat (values (class_of s k)) (values (class_of s l)) ≡ false → (y : ℕ) → IsOrDiffers d t s k l y → values (class_of s k) ≢ values (class_of s y)
+        differs : same_flat (values (class_of s k)) (values (class_of s l)) ≡ false → (y : ℕ) → IsItOr (HaveTwoValues d t s sorted k) l y → values (class_of s k) ≢ values (class_of s y)
         differs e y (inl is) same =
             let back : values (class_of s l) ≡ values (class_of s k) = sym (same ∙ ap (λ n. values (class_of s n)) is) in
             false≢true (sym e ∙ ap (same_flat (values (class_of s k))) back ∙ same_flat_itself (values (class_of s k)))
@@ -226,8 +240,8 @@ module _ (d : Declarations) (t : NodeTable) (s : State) where
             let q = values (class_of s k) in
             let a = ap (count q) (one values go) in
             let b = count_itself q [] in
-            let c = among values go q in
-            let z = none_times values q ys (λ i x within. other_times values q (get_or ys i x) (single i x within values go) (differs e (get_or ys i x) (others i x within))) in
+            let c = among values go.go q in
+            let z = none_times values q ys (λ i x within. other_times values go q (get_or ys i x) (few i x within values go) (differs e (get_or ys i x) (others i x within))) in
             absurd (omega (arith, a, b, c, z))
 
     -- what stands on one side is among the other

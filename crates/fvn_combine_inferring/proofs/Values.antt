@@ -1,5 +1,6 @@
 -- The values that go with a state: what heads them, and how many summands they have.
 use Rattle.std.proofs.Common.{◌≡◌, ◌≢◌, ℕ, ◌+◌, ◌<◌, ◌≤◌, true, List, [], ◌∷◌, length, map, refl, sym, ap, ◌∙◌, arith, Option, Some}
+use Rattle.std.specs.Prelude.{Bool}
 use Rattle.std.specs.List.{AllByRecursion}
 use Rattle.std.proofs.lemmas.List.{length-map}
 use Rattle.std.proofs.lemmas.Option.{slice_get_within}
@@ -24,6 +25,7 @@ use Rattle.fvn_combine_nodes.proofs.Heading.{some_part, build_head}
 use Rattle.fvn_combine_leaves.specs.Leaves.{IsSolid}
 use Rattle.fvn_combine_choices.specs.Tables.{HasSums}
 use Rattle.fvn_combine_complete.specs.Obeying.{GoWith}
+use Rattle.fvn_combine_inferring.specs.Sorted.{GoWithSorts}
 use Rattle.fvn_combine_inferring.specs.Rows.{summands, times, many}
 use Rattle.fvn_combine_inferring.specs.inner.Bounds.{IsHeadedApart, HaveTwoHeads}
 use Rattle.fvn_combine_inferring.specs.inner.Splits.{IsUnitNode, IsUnitClass, IsSplit, AreSplits, IsAdditive, AreWithin}
@@ -113,11 +115,6 @@ module _ (d : Declarations) (t : NodeTable) (has : HasSums d t) (s : State) (clo
     pub times_additive : (splits : List (Option (ℕ × ℕ))) → AreSplits t s f splits → (q : FlatTerm) → IsAdditive splits (times d s f values q)
     times_additive splits are q k p e = split_adds k p (are.each k p e) q
 
-  -- a class that another operator heads has its value as its one summand
-  pub headed_summand : (heads : List (Option OpId)) → TellHeads d t s heads → (f : OpId) (k : ℕ) → k < length t.nodes → IsHeadedApart d f heads (class_of s k) → summands d s f values k ≡ values (class_of s k) ∷ []
-  headed_summand heads are f k l h =
-      headed_part d f h.0 h.2.0 h.2.1 (values (class_of s k)) (are.headed (class_of s k) h.0 (name_within d t s closed k l) h.1 values go_with)
-
   -- under an operator without an identity each value has a summand
   pub bare_summand : (f : OpId) (k : ℕ) → HasNoIdentity (axioms d f) → 1 ≤ many d s f values k
   bare_summand f k bare = some_part d f bare (values (class_of s k)) (go_with.are.settled (class_of s k))
@@ -130,9 +127,15 @@ module _ (d : Declarations) (t : NodeTable) (has : HasSums d t) (s : State) (clo
       go [] e = absurd (go_with.differ k n l within apart (nothing_value f n k unit e))
       go (x ∷ xs) e = let m = ap length e in omega (arith, m)
 
+module _ (d : Declarations) (t : NodeTable) (s : State) (closed : IsClosed d t s) (sorted : Bool) (heads : List (Option OpId)) (are : TellHeads d t s sorted heads) (values : ℕ → FlatTerm) (go : GoWithSorts d t s sorted values) where
+  -- a class that another operator heads has its value as its one summand
+  pub headed_summand : (f : OpId) (k : ℕ) → k < length t.nodes → IsHeadedApart d f heads (class_of s k) → summands d s f values k ≡ values (class_of s k) ∷ []
+  headed_summand f k l h =
+      headed_part d f h.0 h.2.0 h.2.1 (values (class_of s k)) (are.headed (class_of s k) h.0 (name_within d t s closed k l) h.1 values go)
+
   -- two heads make two values
-  pub heads_differ : (heads : List (Option OpId)) → TellHeads d t s heads → (i j : ℕ) → i < length t.nodes → j < length t.nodes → HaveTwoHeads heads (class_of s i) (class_of s j) → values (class_of s i) ≢ values (class_of s j)
-  heads_differ heads are i j l m h e =
-      let a = are.headed (class_of s i) h.0 (name_within d t s closed i l) h.2 values go_with in
-      let b = are.headed (class_of s j) h.1 (name_within d t s closed j m) h.3 values go_with in
+  pub heads_differ : (i j : ℕ) → i < length t.nodes → j < length t.nodes → HaveTwoHeads heads (class_of s i) (class_of s j) → values (class_of s i) ≢ values (class_of s j)
+  heads_differ i j l m h e =
+      let a = are.headed (class_of s i) h.0 (name_within d t s closed i l) h.2 values go in
+      let b = are.headed (class_of s j) h.1 (name_within d t s closed j m) h.3 values go in
       h.4 (let p : Some h.0 ≡ Some h.1 = sym a ∙ ap head_of e ∙ b in cc)

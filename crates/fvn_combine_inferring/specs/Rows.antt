@@ -1,6 +1,6 @@
 -- Reduced rows: what the sums by an operator say of classes, where each class is replaced by the classes that it adds, and
 -- what stands on both sides is taken out.
-use Rattle.std.specs.Prelude.{◌≡◌, ℕ, ◌≤◌, List, [], ◌∷◌, length, sum_by}
+use Rattle.std.specs.Prelude.{◌≡◌, ℕ, ◌≤◌, Bool, List, [], ◌∷◌, length, sum_by}
 use Rattle.fvn_terms.specs.declared.plain.OpId.{OpId}
 use Rattle.fvn_terms.specs.declared.declarations.Declarations.{Declarations}
 use Rattle.fvn_forms.specs.Flat.{FlatTerm}
@@ -10,6 +10,7 @@ use Rattle.fvn_combine_nodes.specs.Table.{NodeTable}
 use Rattle.fvn_combine_nodes.specs.States.{class_of}
 use Rattle.fvn_combine_nodes.specs.declared.state.State.{State}
 use Rattle.fvn_combine_complete.specs.Obeying.{GoWith}
+use Rattle.fvn_combine_inferring.specs.Sorted.{GoWithSorts}
 
 module _ (d : Declarations) (s : State) (f : OpId) (values : ℕ → FlatTerm) where
   -- the summands, under f, of the value of the class of node k
@@ -33,14 +34,19 @@ module _ (d : Declarations) (t : NodeTable) (s : State) (f : OpId) where
   abbrev pub AreSides : List ℕ → List ℕ → Type 0
   AreSides ks ls = (values : ℕ → FlatTerm) → GoWith d t s values → HaveSameSummands d s f values ks ls
 
-  -- whatever values go with the state, that of the class of node k has a summand
-  abbrev pub HasSummand : ℕ → Type 0
-  HasSummand k = (values : ℕ → FlatTerm) → GoWith d t s values → 1 ≤ many d s f values k
-
-  -- whatever values go with the state, that of the class of node k is its one summand
-  abbrev pub IsSummand : ℕ → Type 0
-  IsSummand k = (values : ℕ → FlatTerm) → GoWith d t s values → summands d s f values k ≡ values (class_of s k) ∷ []
-
   -- whatever values go with the state, the summands of the class of node k are among those of the classes of the list together
   abbrev pub IsAmong : ℕ → List ℕ → Type 0
   IsAmong k ks = (values : ℕ → FlatTerm) → GoWith d t s values → (q : FlatTerm) → times d s f values q k ≤ sum_by (times d s f values q) ks
+
+module _ (d : Declarations) (t : NodeTable) (s : State) (sorted : Bool) (f : OpId) where
+  -- whatever values go with the state, that of the class of node k has a summand
+  abbrev pub HasSummand : ℕ → Type 0
+  HasSummand k = (values : ℕ → FlatTerm) → GoWithSorts d t s sorted values → 1 ≤ many d s f values k
+
+  -- it has one at most
+  abbrev pub HasFewSummands : ℕ → Type 0
+  HasFewSummands k = (values : ℕ → FlatTerm) → GoWithSorts d t s sorted values → many d s f values k ≤ 1
+
+  -- it is its one summand
+  abbrev pub IsSummand : ℕ → Type 0
+  IsSummand k = (values : ℕ → FlatTerm) → GoWithSorts d t s sorted values → summands d s f values k ≡ values (class_of s k) ∷ []

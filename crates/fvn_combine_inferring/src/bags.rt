@@ -1,44 +1,47 @@
-//! Bags: where both sides are made of single summands, each of one side is one of the other.
+//! Bags: where one side is made of single summands, each single summand of the other is one of them.
 ghost use Rattle.std.specs.Prelude.{◌<◌, length, All};
 ghost use Rattle.fvn_combine_choices.specs.Tables.{HasSums};
 ghost use Rattle.fvn_combine_nodes.specs.States.{IsClosed};
 ghost use Rattle.fvn_combine_inferring.specs.Inferred.{TellHeads, IsInferred};
-ghost use Rattle.fvn_combine_inferring.specs.Rows.{AreSides, IsSummand, IsAmong};
+ghost use Rattle.fvn_combine_inferring.specs.inner.Splits.{IsAddition};
+ghost use Rattle.fvn_combine_inferring.specs.Rows.{AreSides, HasFewSummands, IsSummand, IsAmong};
 
-use crate::bounds::{are_summands, is_summand};
+use crate::bounds::{have_few_summands, is_summand};
 use crate::differing::{candidate, is_only};
+use crate::expressions::Addition;
+use crate::heads::Known;
 use crate::inferring::Inferred;
 use crate::meeting::met;
 use fvn_combine_nodes::{State, Table};
 use fvn_signature::Signature;
-use fvn_terms::OpId;
 
-// What is said of a class that is one summand, and is among those of the list, which are one each.
+// What is said of a class that is one summand, and is among those of the list, which are one each at most.
 fn matched(
     sig: &Signature,
     table: &Table,
     state: &State,
-    heads: &[Option<OpId>],
-    f: OpId,
+    known: &Known,
+    addition: &Addition,
     k: usize,
     list: &[usize],
 ) -> Inferred
     requires closed { IsClosed sig.now table.now state.now }
     requires sums { HasSums sig.now table.now }
-    requires heads { TellHeads sig.now table.now state.now heads.now }
+    requires heads { TellHeads sig.now table.now state.now known.now.sorted known.now.heads.items }
+    requires addition { IsAddition sig.now table.now state.now addition.now }
     requires within { k < length table.now.nodes }
     requires list { All (λ l. l < length table.now.nodes) list.now }
-    requires one { IsSummand sig.now table.now state.now f k }
-    requires single { All (IsSummand sig.now table.now state.now f) list.now }
-    requires among { IsAmong sig.now table.now state.now f k list.now }
-    ensures { IsInferred sig.now table.now state.now result }
+    requires one { IsSummand sig.now table.now state.now known.now.sorted addition.now.operator k }
+    requires few { All (HasFewSummands sig.now table.now state.now known.now.sorted addition.now.operator) list.now }
+    requires among { IsAmong sig.now table.now state.now addition.now.operator k list.now }
+    ensures { IsInferred sig.now table.now state.now known.now.sorted result }
 {
-    let _operator = f;
-    match candidate(sig, table, state, heads, k, list) {
+    let _addition = addition;
+    match candidate(sig, table, state, known, k, list) {
         None => Inferred::Impossible,
         Some(l) => {
-            if is_only(sig, table, state, heads, k, l, list) {
-                return met(sig, table, state, k, l);
+            if is_only(sig, table, state, known, k, l, list) {
+                return met(sig, table, state, known.sorted, k, l);
             }
             if state.is_open(k, l) {
                 Inferred::Question(k, l)
@@ -49,32 +52,34 @@ fn matched(
     }
 }
 
-// What is said where each class of the second list is one summand: so each that is one in the first is among them.
+// What is said where each class of the second list is one summand at most: so each that is one in the first is among
+// them.
 pub(crate) fn bagged(
     sig: &Signature,
     table: &Table,
     state: &State,
-    heads: &[Option<OpId>],
-    f: OpId,
+    known: &Known,
+    addition: &Addition,
     first: &[usize],
     second: &[usize],
 ) -> Inferred
     requires closed { IsClosed sig.now table.now state.now }
     requires sums { HasSums sig.now table.now }
-    requires heads { TellHeads sig.now table.now state.now heads.now }
+    requires heads { TellHeads sig.now table.now state.now known.now.sorted known.now.heads.items }
+    requires addition { IsAddition sig.now table.now state.now addition.now }
     requires left { All (λ k. k < length table.now.nodes) first.now }
     requires right { All (λ k. k < length table.now.nodes) second.now }
-    requires sides { AreSides sig.now table.now state.now f first.now second.now }
-    ensures { IsInferred sig.now table.now state.now result }
+    requires sides { AreSides sig.now table.now state.now addition.now.operator first.now second.now }
+    ensures { IsInferred sig.now table.now state.now known.now.sorted result }
 {
-    if !are_summands(sig, table, state, heads, f, second) {
+    if !have_few_summands(sig, table, state, known, addition, second) {
         return Inferred::Nothing;
     }
     for k in first {
-        if !is_summand(sig, table, state, heads, f, *k) {
+        if !is_summand(sig, table, state, known, addition, *k) {
             continue;
         }
-        let told = matched(sig, table, state, heads, f, *k, second);
+        let told = matched(sig, table, state, known, addition, *k, second);
         if told.is_something() {
             return told;
         }

@@ -1,14 +1,16 @@
 //! How many summands the value of a class has at least, and at most.
-ghost use Rattle.std.specs.Prelude.{◌≡◌, ℕ, ◌<◌, ◌≤◌, true, length, sum_by, All, IsTrue};
+ghost use Rattle.std.specs.Prelude.{◌≡◌, ℕ, ◌<◌, ◌≤◌, true, false, length, slice_index_or, sum_by, All, IsTrue};
 ghost use Rattle.fvn_forms.specs.Flat.{FlatTerm};
 ghost use Rattle.fvn_combine_choices.specs.Tables.{HasSums};
-ghost use Rattle.fvn_combine_complete.specs.Obeying.{GoWith};
 ghost use Rattle.fvn_combine_nodes.specs.States.{IsClosed, IsNaming, class_of, is_apart};
-ghost use Rattle.fvn_combine_inferring.specs.Rows.{many, HasSummand, IsSummand};
-ghost use Rattle.fvn_combine_inferring.specs.inner.Bounds.{IsOtherHead, IsHeadedApart};
 ghost use Rattle.fvn_combine_inferring.specs.Inferred.{TellHeads};
+ghost use Rattle.fvn_combine_inferring.specs.Rows.{many, HasSummand, HasFewSummands, IsSummand};
+ghost use Rattle.fvn_combine_inferring.specs.Sorted.{GoWithSorts};
+ghost use Rattle.fvn_combine_inferring.specs.inner.Bounds.{IsOtherHead, IsHeadedApart, IsMarked};
+ghost use Rattle.fvn_combine_inferring.specs.inner.Splits.{IsAddition};
 
-use crate::expressions::unit_of;
+use crate::expressions::{Addition, unit_of};
+use crate::heads::Known;
 use fvn_combine_nodes::{State, Table, has_no_identity};
 use fvn_signature::Signature;
 use fvn_terms::OpId;
@@ -58,36 +60,56 @@ pub(crate) fn are_apart(state: &State, i: usize, j: usize) -> bool
 }
 
 // Whether the class of node k is kept apart from f's identity.
-fn is_apart_from_unit(sig: &Signature, table: &Table, state: &State, f: OpId, k: usize) -> bool
+fn is_apart_from_unit(
+    sig: &Signature,
+    table: &Table,
+    state: &State,
+    sorted: bool,
+    f: OpId,
+    k: usize,
+) -> bool
     requires closed { IsClosed sig.now table.now state.now }
     requires sums { HasSums sig.now table.now }
     requires within { k < length table.now.nodes }
-    ensures { IsTrue result → HasSummand sig.now table.now state.now f k }
+    ensures { IsTrue result → HasSummand sig.now table.now state.now sorted f k }
 {
     let _sig = sig;
+    let _sorted = sorted;
     match unit_of(table, f) {
         None => false,
         Some(n) => are_apart(state, k, n),
     }
 }
 
+// Whether the class of node k is marked, and sorts are heeded.
+fn is_marked(state: &State, known: &Known, marks: &[bool], k: usize) -> bool
+    requires within { k < length state.now.names }
+    requires marks { class_of state.now k < length marks.now }
+    ensures { IsTrue result → IsMarked known.now.sorted marks.now (class_of state.now k) }
+{
+    if !known.sorted {
+        return false;
+    }
+    marks[state.class_of(k)]
+}
+
 // Whether the class of node k is headed by another operator: its value is one summand.
-pub(crate) fn is_summand(
+fn is_headed(
     sig: &Signature,
     table: &Table,
     state: &State,
-    heads: &[Option<OpId>],
+    known: &Known,
     f: OpId,
     k: usize,
 ) -> bool
     requires closed { IsClosed sig.now table.now state.now }
     requires sums { HasSums sig.now table.now }
-    requires heads { TellHeads sig.now table.now state.now heads.now }
+    requires heads { TellHeads sig.now table.now state.now known.now.sorted known.now.heads.items }
     requires within { k < length table.now.nodes }
-    ensures { IsTrue result → IsSummand sig.now table.now state.now f k }
+    ensures { IsTrue result → IsSummand sig.now table.now state.now known.now.sorted f k }
 {
     let _table = table;
-    is_headed_apart(sig, state, heads, f, k)
+    is_headed_apart(sig, state, known.heads.as_slice(), f, k)
 }
 
 // Whether the value of the class of node k has a summand for sure.
@@ -95,42 +117,91 @@ fn has_summand(
     sig: &Signature,
     table: &Table,
     state: &State,
-    heads: &[Option<OpId>],
-    f: OpId,
+    known: &Known,
+    addition: &Addition,
     k: usize,
 ) -> bool
     requires closed { IsClosed sig.now table.now state.now }
     requires sums { HasSums sig.now table.now }
-    requires heads { TellHeads sig.now table.now state.now heads.now }
+    requires heads { TellHeads sig.now table.now state.now known.now.sorted known.now.heads.items }
+    requires addition { IsAddition sig.now table.now state.now addition.now }
     requires within { k < length table.now.nodes }
-    ensures { IsTrue result → HasSummand sig.now table.now state.now f k }
+    ensures { IsTrue result → HasSummand sig.now table.now state.now known.now.sorted addition.now.operator k }
 {
-    if has_no_identity(sig.axioms(f)) {
+    if has_no_identity(sig.axioms(addition.operator)) {
         return true;
     }
-    if is_summand(sig, table, state, heads, f, k) {
+    if is_headed(sig, table, state, known, addition.operator, k) {
         return true;
     }
-    is_apart_from_unit(sig, table, state, f, k)
+    if is_marked(state, known, addition.other.as_slice(), k) {
+        return true;
+    }
+    is_apart_from_unit(sig, table, state, known.sorted, addition.operator, k)
 }
 
-// Whether the values of all these classes are one summand each.
-pub(crate) fn are_summands(
+// Whether the value of the class of node k has one summand at most.
+fn has_few_summands(
     sig: &Signature,
     table: &Table,
     state: &State,
-    heads: &[Option<OpId>],
-    f: OpId,
+    known: &Known,
+    addition: &Addition,
+    k: usize,
+) -> bool
+    requires closed { IsClosed sig.now table.now state.now }
+    requires sums { HasSums sig.now table.now }
+    requires heads { TellHeads sig.now table.now state.now known.now.sorted known.now.heads.items }
+    requires addition { IsAddition sig.now table.now state.now addition.now }
+    requires within { k < length table.now.nodes }
+    ensures { IsTrue result → HasFewSummands sig.now table.now state.now known.now.sorted addition.now.operator k }
+{
+    if is_headed(sig, table, state, known, addition.operator, k) {
+        return true;
+    }
+    is_marked(state, known, addition.narrow.as_slice(), k)
+}
+
+// Whether the value of the class of node k is one summand.
+pub(crate) fn is_summand(
+    sig: &Signature,
+    table: &Table,
+    state: &State,
+    known: &Known,
+    addition: &Addition,
+    k: usize,
+) -> bool
+    requires closed { IsClosed sig.now table.now state.now }
+    requires sums { HasSums sig.now table.now }
+    requires heads { TellHeads sig.now table.now state.now known.now.sorted known.now.heads.items }
+    requires addition { IsAddition sig.now table.now state.now addition.now }
+    requires within { k < length table.now.nodes }
+    ensures { IsTrue result → IsSummand sig.now table.now state.now known.now.sorted addition.now.operator k }
+{
+    if !has_summand(sig, table, state, known, addition, k) {
+        return false;
+    }
+    has_few_summands(sig, table, state, known, addition, k)
+}
+
+// Whether the values of all these classes have one summand each at most.
+pub(crate) fn have_few_summands(
+    sig: &Signature,
+    table: &Table,
+    state: &State,
+    known: &Known,
+    addition: &Addition,
     list: &[usize],
 ) -> bool
     requires closed { IsClosed sig.now table.now state.now }
     requires sums { HasSums sig.now table.now }
-    requires heads { TellHeads sig.now table.now state.now heads.now }
+    requires heads { TellHeads sig.now table.now state.now known.now.sorted known.now.heads.items }
+    requires addition { IsAddition sig.now table.now state.now addition.now }
     requires within { All (λ k. k < length table.now.nodes) list.now }
-    ensures { IsTrue result → All (IsSummand sig.now table.now state.now f) list.now }
+    ensures { IsTrue result → All (HasFewSummands sig.now table.now state.now known.now.sorted addition.now.operator) list.now }
 {
     for k in list {
-        if !is_summand(sig, table, state, heads, f, *k) {
+        if !has_few_summands(sig, table, state, known, addition, *k) {
             return false;
         }
     }
@@ -142,20 +213,21 @@ pub(crate) fn count_summands(
     sig: &Signature,
     table: &Table,
     state: &State,
-    heads: &[Option<OpId>],
-    f: OpId,
+    known: &Known,
+    addition: &Addition,
     list: &[usize],
 ) -> usize
     requires closed { IsClosed sig.now table.now state.now }
     requires sums { HasSums sig.now table.now }
-    requires heads { TellHeads sig.now table.now state.now heads.now }
+    requires heads { TellHeads sig.now table.now state.now known.now.sorted known.now.heads.items }
+    requires addition { IsAddition sig.now table.now state.now addition.now }
     requires within { All (λ k. k < length table.now.nodes) list.now }
-    ensures { (values : ℕ → FlatTerm) → GoWith sig.now table.now state.now values
-        → result ≤ sum_by (many sig.now state.now f values) list.now }
+    ensures { (values : ℕ → FlatTerm) → GoWithSorts sig.now table.now state.now known.now.sorted values
+        → result ≤ sum_by (many sig.now state.now addition.now.operator values) list.now }
 {
     let mut count = 0;
     for k in list {
-        if !has_summand(sig, table, state, heads, f, *k) {
+        if !has_summand(sig, table, state, known, addition, *k) {
             continue;
         }
         count += 1;

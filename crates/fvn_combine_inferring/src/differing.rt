@@ -3,9 +3,10 @@ ghost use Rattle.std.specs.Prelude.{◌<◌, length, All, IsTrue, MatchOption};
 ghost use Rattle.fvn_combine_choices.specs.Tables.{HasSums};
 ghost use Rattle.fvn_combine_nodes.specs.States.{IsClosed};
 ghost use Rattle.fvn_combine_inferring.specs.Inferred.{TellHeads, HaveTwoValues};
-ghost use Rattle.fvn_combine_inferring.specs.inner.Bounds.{HaveTwoHeads, IsOrDiffers};
+ghost use Rattle.fvn_combine_inferring.specs.inner.Bounds.{HaveTwoHeads, IsItOr};
 
 use crate::bounds::are_apart;
+use crate::heads::Known;
 use fvn_combine_nodes::{State, Table};
 use fvn_signature::Signature;
 use fvn_terms::OpId;
@@ -30,23 +31,23 @@ pub fn differ(
     sig: &Signature,
     table: &Table,
     state: &State,
-    heads: &[Option<OpId>],
+    known: &Known,
     i: usize,
     j: usize,
 ) -> bool
     requires closed { IsClosed sig.now table.now state.now }
     requires sums { HasSums sig.now table.now }
-    requires heads { TellHeads sig.now table.now state.now heads.now }
+    requires heads { TellHeads sig.now table.now state.now known.now.sorted known.now.heads.items }
     requires left { i < length table.now.nodes }
     requires right { j < length table.now.nodes }
-    ensures { IsTrue result → HaveTwoValues sig.now table.now state.now i j }
+    ensures { IsTrue result → HaveTwoValues sig.now table.now state.now known.now.sorted i j }
 {
     let _sig = sig;
     let _table = table;
     if are_apart(state, i, j) {
         return true;
     }
-    have_two_heads(heads, state.class_of(i), state.class_of(j))
+    have_two_heads(known.heads.as_slice(), state.class_of(i), state.class_of(j))
 }
 
 // A node of the list whose class is not known to differ from that of node k.
@@ -54,20 +55,20 @@ pub(crate) fn candidate(
     sig: &Signature,
     table: &Table,
     state: &State,
-    heads: &[Option<OpId>],
+    known: &Known,
     k: usize,
     list: &[usize],
 ) -> Option<usize>
     requires closed { IsClosed sig.now table.now state.now }
     requires sums { HasSums sig.now table.now }
-    requires heads { TellHeads sig.now table.now state.now heads.now }
+    requires heads { TellHeads sig.now table.now state.now known.now.sorted known.now.heads.items }
     requires within { k < length table.now.nodes }
     requires list { All (λ l. l < length table.now.nodes) list.now }
-    ensures { MatchOption result (All (HaveTwoValues sig.now table.now state.now k) list.now)
+    ensures { MatchOption result (All (HaveTwoValues sig.now table.now state.now known.now.sorted k) list.now)
         (λ l. l < length table.now.nodes) }
 {
     for l in list {
-        if !differ(sig, table, state, heads, k, *l) {
+        if !differ(sig, table, state, known, k, *l) {
             return Some(*l);
         }
     }
@@ -79,22 +80,22 @@ fn is_passed(
     sig: &Signature,
     table: &Table,
     state: &State,
-    heads: &[Option<OpId>],
+    known: &Known,
     k: usize,
     l: usize,
     x: usize,
 ) -> bool
     requires closed { IsClosed sig.now table.now state.now }
     requires sums { HasSums sig.now table.now }
-    requires heads { TellHeads sig.now table.now state.now heads.now }
+    requires heads { TellHeads sig.now table.now state.now known.now.sorted known.now.heads.items }
     requires within { k < length table.now.nodes }
     requires other { x < length table.now.nodes }
-    ensures { IsTrue result → IsOrDiffers sig.now table.now state.now k l x }
+    ensures { IsTrue result → IsItOr (HaveTwoValues sig.now table.now state.now known.now.sorted k) l x }
 {
     if x == l {
         return true;
     }
-    differ(sig, table, state, heads, k, x)
+    differ(sig, table, state, known, k, x)
 }
 
 // Whether the classes of all nodes of the list but l are known to differ from that of node k.
@@ -102,20 +103,20 @@ pub(crate) fn is_only(
     sig: &Signature,
     table: &Table,
     state: &State,
-    heads: &[Option<OpId>],
+    known: &Known,
     k: usize,
     l: usize,
     list: &[usize],
 ) -> bool
     requires closed { IsClosed sig.now table.now state.now }
     requires sums { HasSums sig.now table.now }
-    requires heads { TellHeads sig.now table.now state.now heads.now }
+    requires heads { TellHeads sig.now table.now state.now known.now.sorted known.now.heads.items }
     requires within { k < length table.now.nodes }
     requires list { All (λ x. x < length table.now.nodes) list.now }
-    ensures { IsTrue result → All (IsOrDiffers sig.now table.now state.now k l) list.now }
+    ensures { IsTrue result → All (IsItOr (HaveTwoValues sig.now table.now state.now known.now.sorted k) l) list.now }
 {
     for x in list {
-        if !is_passed(sig, table, state, heads, k, l, *x) {
+        if !is_passed(sig, table, state, known, k, l, *x) {
             return false;
         }
     }

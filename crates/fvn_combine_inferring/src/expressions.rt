@@ -6,6 +6,8 @@ ghost use Rattle.fvn_combine_nodes.specs.States.{IsClosed, class_of};
 ghost use Rattle.fvn_combine_systems.specs.NodeSystems.{pair, addends};
 ghost use Rattle.fvn_combine_inferring.specs.inner.Splits.{IsUnitNode, IsUnitClass, IsSplit, AreSplits, IsUnsplit, noted, IsAddition, AreWithin, IsSplitPlace, IsExpression};
 
+use crate::heads::Known;
+use crate::sorts::{narrow_marks, other_marks};
 use fvn_base::Seq;
 use fvn_combine_nodes::{Node, State, Table};
 use fvn_signature::Signature;
@@ -23,6 +25,10 @@ pub struct Addition {
     pub unit: Option<usize>,
     /// For each class two classes that a member of it adds, where there are any.
     pub splits: Seq<Option<(usize, usize)>>,
+    /// For each class whether the sort of a variable in it admits no sum; nowhere where sorts are not heeded.
+    pub narrow: Seq<bool>,
+    /// For each class whether the sort of a variable in it does not admit the identity; the same.
+    pub other: Seq<bool>,
 }
 
 // The two numbers, where there are two.
@@ -172,20 +178,24 @@ pub(crate) fn addition_of(
     sig: &Signature,
     table: &Table,
     state: &State,
-    heads: &[Option<OpId>],
+    known: &Known,
     f: OpId,
 ) -> Result<Addition, NoMemory>
     requires associative { IsAssociative (axioms sig.now f) }
     requires closed { IsClosed sig.now table.now state.now }
-    requires heads { length heads.now ≡ length table.now.nodes }
+    requires heads { length known.now.heads.items ≡ length table.now.nodes }
     ensures is { IfOk result (IsAddition sig.now table.now state.now) }
     ensures operator { IfOk result (λ a. a.operator ≡ f) }
 {
-    let splits = splits_of(alloc, sig, table, state, heads, f)?;
+    let splits = splits_of(alloc, sig, table, state, known.heads.as_slice(), f)?;
+    let narrow = narrow_marks(alloc, sig, table, state, f, known.sorted)?;
+    let other = other_marks(alloc, sig, table, state, f, known.sorted)?;
     Ok(Addition {
         operator: f,
         unit: unit_class(table, state, f),
         splits: Seq::from_vec(splits),
+        narrow: Seq::from_vec(narrow),
+        other: Seq::from_vec(other),
     })
 }
 

@@ -1,4 +1,4 @@
-//! What heads the values of classes.
+//! What is known of the values of classes: what heads them.
 ghost use Rattle.std.specs.Prelude.{◌≡◌, ◌<◌, ◌≤◌, length, slice_set, Some, IfOk, OnOk, IsTrue};
 ghost use Rattle.fvn_terms.specs.Signature.{axioms};
 ghost use Rattle.fvn_terms.specs.Equality.{IsAssociative};
@@ -18,6 +18,15 @@ use fvn_signature::Signature;
 use fvn_terms::{NoMemory, OpId};
 use std::alloc::Global;
 
+/// What is known of the values of the classes of a state.
+#[derive(Drop)]
+pub struct Known {
+    /// Whether the sorts of variables are heeded.
+    pub sorted: bool,
+    /// For each class an operator that heads its value, where one is known.
+    pub heads: Vec<Option<OpId>>,
+}
+
 // Whether the number is two or more.
 fn is_two(count: usize) -> bool
     ensures { IsTrue result → 2 ≤ count }
@@ -31,28 +40,21 @@ fn is_large(
     sig: &Signature,
     table: &Table,
     state: &State,
-    heads: &[Option<OpId>],
+    known: &Known,
     addition: &Addition,
     i: usize,
 ) -> Result<bool, NoMemory>
     requires closed { IsClosed sig.now table.now state.now }
     requires sums { HasSums sig.now table.now }
-    requires heads { TellHeads sig.now table.now state.now heads.now }
+    requires heads { TellHeads sig.now table.now state.now known.now.sorted known.now.heads.items }
     requires addition { IsAddition sig.now table.now state.now addition.now }
     requires within { i < length table.now.nodes }
-    ensures { IfOk result (λ r. IsTrue r → HasTwoSummands sig.now table.now state.now addition.now.operator i) }
+    ensures { IfOk result (λ r. IsTrue r → HasTwoSummands sig.now table.now state.now known.now.sorted addition.now.operator i) }
 {
     match added(alloc, sig, table, state, addition, i)? {
         None => Ok(false),
         Some(list) => {
-            let count = count_summands(
-                sig,
-                table,
-                state,
-                heads,
-                addition.operator,
-                list.as_slice(),
-            );
+            let count = count_summands(sig, table, state, known, addition, list.as_slice());
             let large = is_two(count);
             Ok(large)
         }
@@ -73,21 +75,22 @@ fn note_large(
     sig: &Signature,
     table: &Table,
     state: &State,
-    heads: &mut Vec<Option<OpId>>,
+    known: &mut Known,
     f: OpId,
 ) -> Result<(), NoMemory>
     requires associative { IsAssociative (axioms sig.now f) }
     requires closed { IsClosed sig.now table.now state.now }
     requires sums { HasSums sig.now table.now }
-    requires heads { TellHeads sig.now table.now state.now heads.old.items }
-    ensures { OnOk result (TellHeads sig.now table.now state.now heads.new.items) }
+    requires heads { TellHeads sig.now table.now state.now known.old.sorted known.old.heads.items }
+    ensures heads { OnOk result (TellHeads sig.now table.now state.now known.new.sorted known.new.heads.items) }
+    ensures sorted { OnOk result (known.new.sorted ≡ known.old.sorted) }
 {
-    let addition = addition_of(alloc, sig, table, state, heads.as_slice(), f)?;
+    let addition = addition_of(alloc, sig, table, state, known, f)?;
     for i in 0..table.nodes().len() {
-        if !is_large(alloc, sig, table, state, heads.as_slice(), &addition, i)? {
+        if !is_large(alloc, sig, table, state, known, &addition, i)? {
             continue;
         }
-        note_head(heads, state.class_of(i), f);
+        note_head(&mut known.heads, state.class_of(i), f);
     }
     Ok(())
 }
@@ -102,24 +105,27 @@ fn copied(alloc: Global, heads: &[Option<OpId>]) -> Result<Vec<Option<OpId>>, No
     }
 }
 
-/// For each class an operator that heads its value, where one is known: one without an identity that heads a member, or
-/// one whose sum has two summands for sure.
-pub fn heads_of_values(
+/// What is known of the values of the classes of a state: for each an operator that heads its value, one without an
+/// identity that heads a member, or one whose sum has two summands for sure.
+pub fn known_of(
     alloc: Global,
     sig: &Signature,
     table: &Table,
     state: &State,
     reading: &Reading,
-) -> Result<Vec<Option<OpId>>, NoMemory>
+    sorted: bool,
+) -> Result<Known, NoMemory>
     requires closed { IsClosed sig.now table.now state.now }
     requires sums { HasSums sig.now table.now }
     requires reading { IsReading sig.now table.now (class_of state.now) reading.now }
-    ensures { IfOk result (λ v. TellHeads sig.now table.now state.now v.items) }
+    ensures heads { IfOk result (λ k. TellHeads sig.now table.now state.now k.sorted k.heads.items) }
+    ensures sorted { IfOk result (λ k. k.sorted ≡ sorted) }
 {
     table.recall_well_made();
-    let mut heads = copied(alloc, reading.heads.as_slice())?;
+    let heads = copied(alloc, reading.heads.as_slice())?;
+    let mut known = Known { sorted, heads };
     for sums in reading.sums.as_slice() {
-        note_large(alloc, sig, table, state, &mut heads, sums.operator)?;
+        note_large(alloc, sig, table, state, &mut known, sums.operator)?;
     }
-    Ok(heads)
+    Ok(known)
 }

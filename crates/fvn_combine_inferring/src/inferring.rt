@@ -9,6 +9,7 @@ ghost use Rattle.fvn_combine_inferring.specs.Inferred.{TellHeads, IsInferred};
 ghost use Rattle.fvn_combine_inferring.specs.inner.Splits.{IsAddition};
 
 use crate::expressions::{Addition, addition_of};
+use crate::heads::Known;
 use crate::rows::row_at;
 use crate::rules::rule;
 use fvn_combine_leaves::Reading;
@@ -69,23 +70,23 @@ fn infer_at(
     sig: &Signature,
     table: &Table,
     state: &State,
-    heads: &[Option<OpId>],
+    known: &Known,
     addition: &Addition,
     i: usize,
 ) -> Result<Inferred, NoMemory>
     requires closed { IsClosed sig.now table.now state.now }
     requires sums { HasSums sig.now table.now }
-    requires heads { TellHeads sig.now table.now state.now heads.now }
+    requires heads { TellHeads sig.now table.now state.now known.now.sorted known.now.heads.items }
     requires addition { IsAddition sig.now table.now state.now addition.now }
     requires within { i < length table.now.nodes }
-    ensures { IfOk result (IsInferred sig.now table.now state.now) }
+    ensures { IfOk result (IsInferred sig.now table.now state.now known.now.sorted) }
 {
     match row_at(alloc, sig, table, state, addition, i)? {
         None => Ok(Inferred::Nothing),
         Some(row) => {
             let left = row.left.as_slice();
             let right = row.right.as_slice();
-            Ok(rule(sig, table, state, heads, addition.operator, left, right))
+            Ok(rule(sig, table, state, known, addition, left, right))
         }
     }
 }
@@ -96,19 +97,19 @@ fn infer_of(
     sig: &Signature,
     table: &Table,
     state: &State,
-    heads: &[Option<OpId>],
+    known: &Known,
     f: OpId,
 ) -> Result<Inferred, NoMemory>
     requires associative { IsAssociative (axioms sig.now f) }
     requires closed { IsClosed sig.now table.now state.now }
     requires sums { HasSums sig.now table.now }
-    requires heads { TellHeads sig.now table.now state.now heads.now }
-    ensures { IfOk result (IsInferred sig.now table.now state.now) }
+    requires heads { TellHeads sig.now table.now state.now known.now.sorted known.now.heads.items }
+    ensures { IfOk result (IsInferred sig.now table.now state.now known.now.sorted) }
 {
-    let addition = addition_of(alloc, sig, table, state, heads, f)?;
+    let addition = addition_of(alloc, sig, table, state, known, f)?;
     let mut asked = Inferred::Nothing;
     for i in 0..table.nodes().len() {
-        let told = infer_at(alloc, sig, table, state, heads, &addition, i)?;
+        let told = infer_at(alloc, sig, table, state, known, &addition, i)?;
         if told.is_fact() {
             return Ok(told);
         }
@@ -125,18 +126,18 @@ pub fn infer(
     table: &Table,
     state: &State,
     reading: &Reading,
-    heads: &[Option<OpId>],
+    known: &Known,
 ) -> Result<Inferred, NoMemory>
     requires closed { IsClosed sig.now table.now state.now }
     requires sums { HasSums sig.now table.now }
     requires reading { IsReading sig.now table.now (class_of state.now) reading.now }
-    requires heads { TellHeads sig.now table.now state.now heads.now }
-    ensures { IfOk result (IsInferred sig.now table.now state.now) }
+    requires heads { TellHeads sig.now table.now state.now known.now.sorted known.now.heads.items }
+    ensures { IfOk result (IsInferred sig.now table.now state.now known.now.sorted) }
 {
     table.recall_well_made();
     let mut asked = Inferred::Nothing;
     for sums in reading.sums.as_slice() {
-        let told = infer_of(alloc, sig, table, state, heads, sums.operator)?;
+        let told = infer_of(alloc, sig, table, state, known, sums.operator)?;
         if told.is_fact() {
             return Ok(told);
         }

@@ -8,10 +8,13 @@ mod differing;
 mod expressions;
 mod heads;
 mod inferring;
+mod laws;
 mod meeting;
 mod rows;
 mod rules;
+mod sorts;
 
 pub use differing::differ;
-pub use heads::heads_of_values;
+pub use heads::{Known, known_of};
 pub use inferring::{Inferred, infer};
+pub use laws::sorted_unifiers_go_with;

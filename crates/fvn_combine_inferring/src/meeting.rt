@@ -8,15 +8,23 @@ use fvn_combine_nodes::{State, Table};
 use fvn_signature::Signature;
 
 // What is said of two nodes whose classes have one value.
-pub(crate) fn met(sig: &Signature, table: &Table, state: &State, i: usize, j: usize) -> Inferred
+pub(crate) fn met(
+    sig: &Signature,
+    table: &Table,
+    state: &State,
+    sorted: bool,
+    i: usize,
+    j: usize,
+) -> Inferred
     requires closed { IsClosed sig.now table.now state.now }
     requires left { i < length table.now.nodes }
     requires right { j < length table.now.nodes }
-    requires equal { HaveOneValue sig.now table.now state.now i j }
-    ensures { IsInferred sig.now table.now state.now result }
+    requires equal { HaveOneValue sig.now table.now state.now sorted i j }
+    ensures { IsInferred sig.now table.now state.now sorted result }
 {
     let _sig = sig;
     let _table = table;
+    let _sorted = sorted;
     if state.is_same(i, j) {
         return Inferred::Nothing;
     }
@@ -31,17 +39,18 @@ pub(crate) fn all_met(
     sig: &Signature,
     table: &Table,
     state: &State,
+    sorted: bool,
     list: &[usize],
     n: usize,
 ) -> Inferred
     requires closed { IsClosed sig.now table.now state.now }
     requires within { All (λ k. k < length table.now.nodes) list.now }
     requires right { n < length table.now.nodes }
-    requires equal { All (λ k. HaveOneValue sig.now table.now state.now k n) list.now }
-    ensures { IsInferred sig.now table.now state.now result }
+    requires equal { All (λ k. HaveOneValue sig.now table.now state.now sorted k n) list.now }
+    ensures { IsInferred sig.now table.now state.now sorted result }
 {
     for k in list {
-        let told = met(sig, table, state, *k, n);
+        let told = met(sig, table, state, sorted, *k, n);
         if told.is_something() {
             return told;
         }

@@ -4,10 +4,12 @@ ghost use Rattle.fvn_combine_choices.specs.Tables.{HasSums};
 ghost use Rattle.fvn_combine_nodes.specs.States.{IsClosed};
 ghost use Rattle.fvn_combine_inferring.specs.Inferred.{TellHeads, IsInferred};
 ghost use Rattle.fvn_combine_inferring.specs.Rows.{AreSides};
+ghost use Rattle.fvn_combine_inferring.specs.inner.Splits.{IsAddition};
 
 use crate::bags::bagged;
-use crate::bounds::{are_summands, count_summands};
-use crate::expressions::unit_of;
+use crate::bounds::{count_summands, have_few_summands};
+use crate::expressions::{Addition, unit_of};
+use crate::heads::Known;
 use crate::inferring::Inferred;
 use crate::meeting::{all_met, met};
 use fvn_combine_nodes::{State, Table, has_no_identity};
@@ -22,12 +24,19 @@ fn has_none(list: &[usize]) -> bool
 }
 
 // What is said of classes whose values have no summands.
-fn emptied(sig: &Signature, table: &Table, state: &State, f: OpId, list: &[usize]) -> Inferred
+fn emptied(
+    sig: &Signature,
+    table: &Table,
+    state: &State,
+    sorted: bool,
+    f: OpId,
+    list: &[usize],
+) -> Inferred
     requires closed { IsClosed sig.now table.now state.now }
     requires sums { HasSums sig.now table.now }
     requires within { All (λ k. k < length table.now.nodes) list.now }
     requires sides { AreSides sig.now table.now state.now f list.now [] }
-    ensures { IsInferred sig.now table.now state.now result }
+    ensures { IsInferred sig.now table.now state.now sorted result }
 {
     if has_none(list) {
         return Inferred::Nothing;
@@ -37,7 +46,7 @@ fn emptied(sig: &Signature, table: &Table, state: &State, f: OpId, list: &[usize
     }
     match unit_of(table, f) {
         None => Inferred::Nothing,
-        Some(n) => all_met(sig, table, state, list, n),
+        Some(n) => all_met(sig, table, state, sorted, list, n),
     }
 }
 
@@ -79,6 +88,7 @@ fn cancelled(
     sig: &Signature,
     table: &Table,
     state: &State,
+    sorted: bool,
     f: OpId,
     left: &[usize],
     right: &[usize],
@@ -87,7 +97,7 @@ fn cancelled(
     requires left { All (λ k. k < length table.now.nodes) left.now }
     requires right { All (λ k. k < length table.now.nodes) right.now }
     requires sides { AreSides sig.now table.now state.now f left.now right.now }
-    ensures { IsInferred sig.now table.now state.now result }
+    ensures { IsInferred sig.now table.now state.now sorted result }
 {
     let _operator = f;
     match the_one(left) {
@@ -98,7 +108,7 @@ fn cancelled(
                 if !are_as_many(left, right) {
                     return Inferred::Nothing;
                 }
-                met(sig, table, state, k, l)
+                met(sig, table, state, sorted, k, l)
             }
         },
     }
@@ -111,28 +121,29 @@ fn is_more(count: usize, list: &[usize]) -> bool
     count > list.len()
 }
 
-// What is said where the classes of the second list are one summand each: the first ones have no more.
+// What is said where the classes of the second list are one summand each at most: the first ones have no more.
 fn counted(
     sig: &Signature,
     table: &Table,
     state: &State,
-    heads: &[Option<OpId>],
-    f: OpId,
+    known: &Known,
+    addition: &Addition,
     first: &[usize],
     second: &[usize],
 ) -> Inferred
     requires closed { IsClosed sig.now table.now state.now }
     requires sums { HasSums sig.now table.now }
-    requires heads { TellHeads sig.now table.now state.now heads.now }
+    requires heads { TellHeads sig.now table.now state.now known.now.sorted known.now.heads.items }
+    requires addition { IsAddition sig.now table.now state.now addition.now }
     requires left { All (λ k. k < length table.now.nodes) first.now }
     requires right { All (λ k. k < length table.now.nodes) second.now }
-    requires sides { AreSides sig.now table.now state.now f first.now second.now }
-    ensures { IsInferred sig.now table.now state.now result }
+    requires sides { AreSides sig.now table.now state.now addition.now.operator first.now second.now }
+    ensures { IsInferred sig.now table.now state.now known.now.sorted result }
 {
-    if !are_summands(sig, table, state, heads, f, second) {
+    if !have_few_summands(sig, table, state, known, addition, second) {
         return Inferred::Nothing;
     }
-    let count = count_summands(sig, table, state, heads, f, first);
+    let count = count_summands(sig, table, state, known, addition, first);
     if is_more(count, second) {
         return Inferred::Impossible;
     }
@@ -144,6 +155,7 @@ fn one_sided(
     sig: &Signature,
     table: &Table,
     state: &State,
+    sorted: bool,
     f: OpId,
     left: &[usize],
     right: &[usize],
@@ -153,13 +165,13 @@ fn one_sided(
     requires left { All (λ k. k < length table.now.nodes) left.now }
     requires right { All (λ k. k < length table.now.nodes) right.now }
     requires sides { AreSides sig.now table.now state.now f left.now right.now }
-    ensures { IsInferred sig.now table.now state.now result }
+    ensures { IsInferred sig.now table.now state.now sorted result }
 {
     if has_none(right) {
-        return emptied(sig, table, state, f, left);
+        return emptied(sig, table, state, sorted, f, left);
     }
     if has_none(left) {
-        return emptied(sig, table, state, f, right);
+        return emptied(sig, table, state, sorted, f, right);
     }
     Inferred::Nothing
 }
@@ -169,24 +181,25 @@ fn both_bagged(
     sig: &Signature,
     table: &Table,
     state: &State,
-    heads: &[Option<OpId>],
-    f: OpId,
+    known: &Known,
+    addition: &Addition,
     left: &[usize],
     right: &[usize],
 ) -> Inferred
     requires closed { IsClosed sig.now table.now state.now }
     requires sums { HasSums sig.now table.now }
-    requires heads { TellHeads sig.now table.now state.now heads.now }
+    requires heads { TellHeads sig.now table.now state.now known.now.sorted known.now.heads.items }
+    requires addition { IsAddition sig.now table.now state.now addition.now }
     requires left { All (λ k. k < length table.now.nodes) left.now }
     requires right { All (λ k. k < length table.now.nodes) right.now }
-    requires sides { AreSides sig.now table.now state.now f left.now right.now }
-    ensures { IsInferred sig.now table.now state.now result }
+    requires sides { AreSides sig.now table.now state.now addition.now.operator left.now right.now }
+    ensures { IsInferred sig.now table.now state.now known.now.sorted result }
 {
-    let told = bagged(sig, table, state, heads, f, left, right);
+    let told = bagged(sig, table, state, known, addition, left, right);
     if told.is_something() {
         return told;
     }
-    bagged(sig, table, state, heads, f, right, left)
+    bagged(sig, table, state, known, addition, right, left)
 }
 
 // What the row says.
@@ -194,34 +207,51 @@ pub(crate) fn rule(
     sig: &Signature,
     table: &Table,
     state: &State,
-    heads: &[Option<OpId>],
-    f: OpId,
+    known: &Known,
+    addition: &Addition,
     left: &[usize],
     right: &[usize],
 ) -> Inferred
     requires closed { IsClosed sig.now table.now state.now }
     requires sums { HasSums sig.now table.now }
-    requires heads { TellHeads sig.now table.now state.now heads.now }
+    requires heads { TellHeads sig.now table.now state.now known.now.sorted known.now.heads.items }
+    requires addition { IsAddition sig.now table.now state.now addition.now }
     requires left { All (λ k. k < length table.now.nodes) left.now }
     requires right { All (λ k. k < length table.now.nodes) right.now }
-    requires sides { AreSides sig.now table.now state.now f left.now right.now }
-    ensures { IsInferred sig.now table.now state.now result }
+    requires sides { AreSides sig.now table.now state.now addition.now.operator left.now right.now }
+    ensures { IsInferred sig.now table.now state.now known.now.sorted result }
 {
-    let told_left = counted(sig, table, state, heads, f, left, right);
+    let told_left = counted(sig, table, state, known, addition, left, right);
     if told_left.is_something() {
         return told_left;
     }
-    let told_right = counted(sig, table, state, heads, f, right, left);
+    let told_right = counted(sig, table, state, known, addition, right, left);
     if told_right.is_something() {
         return told_right;
     }
-    let told_empty = one_sided(sig, table, state, f, left, right);
+    let told_empty = one_sided(
+        sig,
+        table,
+        state,
+        known.sorted,
+        addition.operator,
+        left,
+        right,
+    );
     if told_empty.is_something() {
         return told_empty;
     }
-    let told_same = cancelled(sig, table, state, f, left, right);
+    let told_same = cancelled(
+        sig,
+        table,
+        state,
+        known.sorted,
+        addition.operator,
+        left,
+        right,
+    );
     if told_same.is_something() {
         return told_same;
     }
-    both_bagged(sig, table, state, heads, f, left, right)
+    both_bagged(sig, table, state, known, addition, left, right)
 }

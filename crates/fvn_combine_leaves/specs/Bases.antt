@@ -1,6 +1,6 @@
 -- The minimal solutions of the sum operators that are read.
-use Rattle.std.specs.Prelude.{◌≡◌, ◌↔◌, ℕ, ◌≤◌, List, [], length, slice_get, slice_index_or, Some, AllPairs, Contains}
-use Rattle.fvn_base.specs.declared.limits.TheConstants.{MINIMAL_SOLUTIONS}
+use Rattle.std.specs.Prelude.{◌≡◌, ◌↔◌, ℕ, ◌≤◌, List, [], length, slice_get, slice_index_or, Some, All, AllPairs, Contains}
+use Rattle.fvn_base.specs.declared.limits.TheConstants.{COMPONENT, MINIMAL_SOLUTIONS}
 use Rattle.fvn_base.specs.Order.{IsBefore}
 use Rattle.fvn_lindio.specs.declared.system.System.{System}
 use Rattle.fvn_lindio.specs.declared.system.Solution.{Solution}
@@ -13,6 +13,7 @@ pub record IsBasis (s : System) (basis : List Solution) : Type 0 where
   pub exact : (v : List ℕ) → Contains (vectors_of basis) v ↔ IsMinimal s.columns (rows_of s) v
   pub ordered : AllPairs IsBefore (vectors_of basis)
   pub few : length basis ≤ MINIMAL_SOLUTIONS
+  pub narrow : All (All (λ a. a ≤ COMPONENT)) (vectors_of basis)
   pub kept : IsRefused s → ⊥
 
 -- those of each of the sum operators

@@ -4,15 +4,15 @@ use Rattle.std.specs.Prelude.{MatchOption, IfSome}
 use Rattle.std.specs.Option.{option_to_list}
 use Rattle.std.proofs.Math.Nat.{one-le-pow}
 use Rattle.std.proofs.lemmas.Bool.{cases_eq}
-use Rattle.std.proofs.lemmas.List.{take_at, length_push, length-append, get_or_append_left, get_or-append-add, set_split, set-append_left, drop_all, append_assoc, append-nil, nil_from_length}
-use Rattle.std.proofs.lemmas.List.Elements.{All-nil, All-cons, All-append, All-take}
+use Rattle.std.proofs.lemmas.List.{take_at, length_push, length-append, get_or_append_left, get_or-append-add, get_or_default, set_split, set-append_left, drop_all, append_assoc, append-nil, nil_from_length}
+use Rattle.std.proofs.lemmas.List.Elements.{All-nil, All-cons, All-append, All-take, All-contains, Contains-push}
 use Rattle.std.proofs.lemmas.List.Sums.{sum_by-append, sum_by-cons}
 use Rattle.fvn_terms.specs.declared.declarations.Declarations.{Declarations}
 use Rattle.fvn_combine_nodes.specs.Table.{NodeTable}
 use Rattle.fvn_combine_nodes.specs.Classes.{IsNodePartition}
 use Rattle.fvn_combine_nodes.specs.States.{Admits, IsClosed, open_pairs}
 use Rattle.fvn_combine_nodes.specs.Questions.{IsStart, IsAnswer, AreAnswers}
-use Rattle.fvn_combine_nodes.specs.Trees.{weight, IsToCome, AreClosed, IsAsked, IsTakenOn}
+use Rattle.fvn_combine_nodes.specs.Trees.{weight, IsToCome, AreClosed, IsPartedFrom, AreInOrder, IsAsked, IsTakenOn}
 use Rattle.fvn_combine_nodes.specs.declared.state.State.{State}
 use Rattle.fvn_combine_nodes.specs.declared.asking.Answers.{Answers}
 use Rattle.fvn_combine_nodes.specs.inner.Starts.{listed}
@@ -67,6 +67,42 @@ last_is states below top last is at =
     let n : length (below ++ top ∷ []) - 1 ≡ length below = let m = length_push below top in omega arith in
     let e : Some last ≡ Some top = at ∙ ap (λ l. slice_get l (length l - 1)) is ∙ ap (slice_get (below ++ top ∷ [])) n ∙ slice_get-push below top in
     cc
+
+-- at most one state is in order
+pub ordered_one : (r : Option State) → AreInOrder (option_to_list r)
+ordered_one None = tt
+ordered_one (Some s) = (All-nil (IsPartedFrom s), tt)
+
+all_front : (P : State → Type 0) (xs ys : List State) → All P (xs ++ ys) → All P xs
+all_front P xs ys h i d l = let n = length-append xs ys in subst P (get_or_append_left xs ys d i l) (h i d (omega (arith, l, n)))
+
+-- what stands at the front stays in order
+ordered_front : (below above : List State) → AreInOrder (below ++ above) → AreInOrder below
+ordered_front [] above h = tt
+ordered_front (s ∷ below) above h = (all_front (IsPartedFrom s) below above h.0, ordered_front below above h.1)
+
+pub taken_ordered : (before after : List State) (r : Option State) → before ≡ after ++ option_to_list r → AreInOrder before → AreInOrder after
+taken_ordered before after r e h = ordered_front after (option_to_list r) (subst AreInOrder e h)
+
+-- what is left of a state that is parted from s is so too
+parted_left : (s : State) (left : List State) (top : State) → ((class : ℕ → ℕ) → IsToCome left class → Admits top class) → IsPartedFrom s top → All (IsPartedFrom s) left
+parted_left s left top kept p i d l = record {
+  first = p.first;
+  second = p.second;
+  first_within = p.first_within;
+  second_within = p.second_within;
+  apart = p.apart;
+  together = λ class a. p.together class (kept class (i, get_or left i d, l, sym (get_or_default left i d (get_or left i d) l), a));
+}
+
+-- what is left of the top stands in its place
+ordered_after : (below left : List State) (top : State) → ((class : ℕ → ℕ) → IsToCome left class → Admits top class) → AreInOrder left → AreInOrder (below ++ top ∷ []) → AreInOrder (below ++ left)
+ordered_after [] left top kept order h = order
+ordered_after (s ∷ below) left top kept order h = (
+  All-append (IsPartedFrom s) below left (all_front (IsPartedFrom s) below (top ∷ []) h.0)
+      (parted_left s left top kept (All-contains (IsPartedFrom s) (below ++ top ∷ []) top h.0 (Contains-push below top))),
+  ordered_after below left top kept order h.1,
+)
 
 module _ (d : Declarations) (t : NodeTable) where
   -- a tree that begins with a state or none
@@ -136,6 +172,24 @@ module _ (d : Declarations) (t : NodeTable) where
             let same = (y.holds class (subst (λ n. Admits (get_or (r ∷ s ∷ []) n e) class) first v)).1 in
             apart same
 
+    answers_ordered : i < length t.nodes → j < length t.nodes → AreInOrder (listed a)
+    answers_ordered left right = go a.apart a.same are.apart are.same
+      where
+        go : (p q : Option State) → IsAnswer d t top (λ class. class i ≢ class j) p → IsAnswer d t top (λ class. class i ≡ class j) q → AreInOrder (option_to_list p ++ option_to_list q)
+        go None None x y = tt
+        go None (Some s) x y = (All-nil (IsPartedFrom s), tt)
+        go (Some r) None x y = (All-nil (IsPartedFrom r), tt)
+        go (Some r) (Some s) x y =
+            let parted : IsPartedFrom r s = record {
+              first = i;
+              second = j;
+              first_within = subst (λ n. i < n) (sym x.closed.whole) left;
+              second_within = subst (λ n. j < n) (sym x.closed.whole) right;
+              apart = λ class h. (x.holds class h).1;
+              together = λ class h. (y.holds class h).1;
+            } in
+            (All-cons (IsPartedFrom r) s [] parted (All-nil (IsPartedFrom r)), (All-nil (IsPartedFrom s), tt))
+
     pub answers_fall : weight (listed a) < 3 ^ open_pairs top
     answers_fall = go a.apart a.same are.apart are.same
       where
@@ -187,6 +241,9 @@ module _ (d : Declarations) (t : NodeTable) where
       asked_closed h =
           subst (All (IsClosed d t)) (sym after_is) (All-append (IsClosed d t) below (listed a) (subst (All (IsClosed d t)) asked_below (All-take (IsClosed d t) (length before - 1) before h)) answers_closed)
 
+      pub asked_ordered : i < length t.nodes → j < length t.nodes → AreInOrder before → AreInOrder after
+      asked_ordered left right h = subst AreInOrder (sym after_is) (ordered_after below (listed a) top answers_kept (answers_ordered left right) (subst AreInOrder was h))
+
       pub asked_falls : weight after < weight before
       asked_falls =
           let e = ap weight after_is ∙ sum_by-append (λ r. 3 ^ open_pairs r) below (listed a) in
@@ -229,6 +286,10 @@ module _ (d : Declarations) (t : NodeTable) where
       pub taken_on_closed : AreClosed d t before → AreClosed d t after
       taken_on_closed h =
           subst (All (IsClosed d t)) (sym taken_on_after) (All-append (IsClosed d t) below (option_to_list r) (subst (All (IsClosed d t)) taken_on_below (All-take (IsClosed d t) (length before - 1) before h)) (left_closed top Holds r answer))
+
+      pub taken_on_ordered : AreInOrder before → AreInOrder after
+      taken_on_ordered h =
+          subst AreInOrder (sym taken_on_after) (ordered_after below (option_to_list r) top (λ class h. (left_kept top Holds r answer class h).0) (ordered_one r) (subst AreInOrder was h))
 
       pub taken_on_falls : weight after < weight before
       taken_on_falls =

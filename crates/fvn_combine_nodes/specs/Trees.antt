@@ -1,5 +1,5 @@
 -- Decision trees: states that are still to be looked at.
-use Rattle.std.specs.Prelude.{◌≡◌, ℕ, ◌^◌, List, [], ◌∷◌, ◌++◌, sum_by, All, AllPairs, Any}
+use Rattle.std.specs.Prelude.{◌≡◌, ◌≢◌, ℕ, ◌<◌, ◌^◌, List, [], ◌∷◌, ◌++◌, length, sum_by, All, AllPairs, Any}
 use Rattle.fvn_terms.specs.declared.declarations.Declarations.{Declarations}
 use Rattle.fvn_combine_nodes.specs.Table.{NodeTable}
 use Rattle.fvn_combine_nodes.specs.Classes.{IsNodePartition}
@@ -17,6 +17,20 @@ IsToCome states class = Any (λ s. Admits s class) states
 -- each state of the tree is closed
 abbrev pub AreClosed : Declarations → NodeTable → List State → Type 0
 AreClosed d t states = All (IsClosed d t) states
+
+-- two nodes are apart in all that s admits, and together in all that r admits
+pub record IsPartedFrom (s r : State) : Type 0 where
+  pub first : ℕ
+  pub second : ℕ
+  pub first_within : first < length s.names
+  pub second_within : second < length s.names
+  pub apart : (class : ℕ → ℕ) → Admits s class → class first ≢ class second
+  pub together : (class : ℕ → ℕ) → Admits r class → class first ≡ class second
+
+-- of two states the earlier keeps two nodes apart that the later one, which is looked at before it, has together
+abbrev pub AreInOrder : List State → Type 0
+AreInOrder [] = Unit {0}
+AreInOrder (s ∷ states) = All (IsPartedFrom s) states × AreInOrder states
 
 -- nodes i and j are open in the last state
 pub record IsOpenAtTop (states : List State) (i j : ℕ) : Type 0 where

@@ -1,7 +1,7 @@
 //! Decision trees over the nodes of a table.
 ghost use Rattle.std.specs.Prelude.{◌≡◌, ◌≢◌, ℕ, ◌-◌, ◌<◌, List, [], ◌∷◌, ◌++◌, take, length, IfOk, OnOk, OnErr, IfSome, MatchOption};
 ghost use Rattle.fvn_combine_nodes.specs.Classes.{IsNodePartition};
-ghost use Rattle.fvn_combine_nodes.specs.Trees.{weight, IsToCome, AreClosed, IsOpenAtTop, IsAsked, IsTakenOn};
+ghost use Rattle.fvn_combine_nodes.specs.Trees.{weight, IsToCome, AreClosed, AreInOrder, IsOpenAtTop, IsAsked, IsTakenOn};
 ghost use Rattle.fvn_combine_nodes.specs.inner.Starts.{listed};
 
 use crate::asking::{Answers, ask, ask_apart, ask_same, start};
@@ -84,6 +84,7 @@ impl Tree {
         ensures closed { IfOk result (AreClosed sig.now table.now) }
         ensures all { IfOk result (λ t. (class : ℕ → ℕ) → IsNodePartition sig.now table.now class →
             IsToCome t class) }
+        ensures ordered { IfOk result AreInOrder }
     {
         let mut states = Vec::new(alloc);
         match start(alloc, sig, table)? {
@@ -108,6 +109,7 @@ impl Tree {
         ensures taken { MatchOption result ((self.old ≡ [])
             × (self.new ≡ [])) (λ s. self.old ≡ self.new ++ s ∷ []) }
         ensures falls { IfSome result (λ s. weight self.new < weight self.old) }
+        ensures ordered { AreInOrder self.old → AreInOrder self.new }
     {
         self.states.pop()
     }
@@ -128,6 +130,8 @@ impl Tree {
         requires open { IsOpenAtTop self.old i j }
         ensures asked { OnOk result (IsAsked sig.now table.now self.old self.new) }
         ensures closed { AreClosed sig.now table.now self.new }
+        // Of two states the one in which nodes are together is looked at first.
+        ensures ordered { AreInOrder self.old → AreInOrder self.new }
         ensures falls { OnOk result (weight self.new < weight self.old) }
         ensures no_memory { OnErr result (self.new ≡ self.old) }
     {
@@ -155,6 +159,8 @@ impl Tree {
         requires open { IsOpenAtTop self.old i j }
         ensures met { OnOk result (IsTakenOn sig.now table.now (λ class. class i ≡ class j) self.old self.new) }
         ensures closed { AreClosed sig.now table.now self.new }
+        // Of two states the one in which nodes are together is looked at first.
+        ensures ordered { AreInOrder self.old → AreInOrder self.new }
         ensures falls { OnOk result (weight self.new < weight self.old) }
         ensures no_memory { OnErr result (self.new ≡ self.old) }
     {
@@ -182,6 +188,8 @@ impl Tree {
         requires open { IsOpenAtTop self.old i j }
         ensures parted { OnOk result (IsTakenOn sig.now table.now (λ class. class i ≢ class j) self.old self.new) }
         ensures closed { AreClosed sig.now table.now self.new }
+        // Of two states the one in which nodes are together is looked at first.
+        ensures ordered { AreInOrder self.old → AreInOrder self.new }
         ensures falls { OnOk result (weight self.new < weight self.old) }
         ensures no_memory { OnErr result (self.new ≡ self.old) }
     {

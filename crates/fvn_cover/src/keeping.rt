@@ -1,5 +1,5 @@
 //! Variants that are kept with the values of their variables, their profiles and their marks.
-ghost use Rattle.std.specs.Prelude.{◌≡◌, IfOk};
+ghost use Rattle.std.specs.Prelude.{◌≡◌, IfOk, All};
 ghost use Rattle.fvn_cover.specs.Covering.{values_of, IsFlatVariant};
 ghost use Rattle.fvn_cover.specs.inner.Profiled.{IsProfiled, IsMarked};
 
@@ -111,6 +111,19 @@ impl Kept {
     {
         self.variant
     }
+}
+
+/// All of these variants, each ready to be compared.
+pub fn all_kept(alloc: Global, sig: &Signature, list: Vec<Variant>) -> Result<Vec<Kept>, NoMemory>
+    requires { All (IsFlatVariant sig.now) list.items }
+    ensures { IfOk result (λ all. all.items ≡ list.items) }
+{
+    let mut all = Vec::new(alloc);
+    for v in list {
+        let k = Kept::new(alloc, sig, v)?;
+        all.push(k)?;
+    }
+    Ok(all)
 }
 
 // A variant of a caller, the values of its variables, its profile and its marks, which contracts see as the variant.

@@ -14,11 +14,11 @@ mod variant;
 
 pub use covering::covers;
 pub use gate::{Gate, OpenGate};
-pub use keeping::Kept;
+pub use keeping::{Kept, all_kept};
 pub use laws::{
     at_most_sixteen_workers, covering_of_unifiers_is_instance, covering_of_variants_is_a_preorder,
 };
 pub use marking::{WORKERS, marks};
 pub use pieces::{piece_count, piece_start};
-pub use pruning::{prune, with_member};
+pub use pruning::{prune, prune_kept, with_member};
 pub use variant::{Variant, all_shared};

@@ -9,9 +9,8 @@ ghost use Rattle.fvn_cover.specs.Pieces.{IsRange};
 
 use crate::covering::Shown;
 use crate::gate::Gate;
-use crate::keeping::{Kept, Prepared};
+use crate::keeping::Kept;
 use crate::pieces::{piece_count, piece_start};
-use crate::variant::Variant;
 use fvn_cover_counts::Unkept;
 use fvn_signature::Signature;
 use fvn_terms::NoMemory;
@@ -21,12 +20,13 @@ use std::thread::{Threads, join};
 /// The most workers of one call.
 pub const WORKERS: u32 = 16;
 
-// What all pieces share: the kept variants, and how many pieces so many candidates are cut into.
+// What all pieces share: the kept variants, the gate, and how many pieces so many candidates are cut into.
 #[derive(Drop)]
-struct Work<'a> {
+struct Work<'a, G: Gate> {
     alloc: Global,
     sig: &'a Signature,
     kept: &'a [Kept],
+    gate: &'a G,
     count: usize,
     pieces: u32,
 }
@@ -56,15 +56,14 @@ fn marked(
     alloc: Global,
     sig: &Signature,
     kept: &[Kept],
-    candidates: &[Variant],
+    candidates: &[Kept],
 ) -> Result<Vec<bool>, NoMemory>
     requires { AreComparable sig.now kept.now candidates.now }
     ensures { IfOk result (λ marks. AreMarks sig.now kept.now candidates.now marks.items) }
 {
     let mut marks = Vec::new(alloc);
     for c in candidates {
-        let own = Prepared::new(alloc, sig, c)?;
-        let mark = is_covered(alloc, sig, kept, &own.shown())?;
+        let mark = is_covered(alloc, sig, kept, &c.shown())?;
         marks.push(mark)?;
     }
     Ok(marks)
@@ -74,9 +73,8 @@ fn marked(
 #[cycle(pieces)]
 fn run<R: Threads + Sync, G: Gate>(
     rt: &R,
-    work: &Work<'_>,
-    gate: &G,
-    candidates: &[Variant],
+    work: &Work<'_, G>,
+    candidates: &[Kept],
     low: u32,
     high: u32,
 ) -> Result<Vec<bool>, NoMemory>
@@ -85,7 +83,7 @@ fn run<R: Threads + Sync, G: Gate>(
     ensures { IfOk result (λ marks. AreMarks work.now.sig.now work.now.kept.now candidates.now marks.items) }
 {
     if high - low == 1 {
-        gate.enter(low);
+        work.gate.enter(low);
         let marks = marked(work.alloc, work.sig, work.kept, candidates)?;
         return Ok(marks);
     }
@@ -93,7 +91,7 @@ fn run<R: Threads + Sync, G: Gate>(
     let begin = piece_start(work.count, work.pieces, low);
     let size = piece_start(work.count, work.pieces, middle) - begin;
     let (front, back) = candidates.split_at(size);
-    let marks = halves(rt, work, gate, front, low, middle, back, high)?;
+    let marks = halves(rt, work, front, low, middle, back, high)?;
     Ok(marks)
 }
 
@@ -101,12 +99,11 @@ fn run<R: Threads + Sync, G: Gate>(
 #[cycle(pieces)]
 fn halves<R: Threads + Sync, G: Gate>(
     rt: &R,
-    work: &Work<'_>,
-    gate: &G,
-    front: &[Variant],
+    work: &Work<'_, G>,
+    front: &[Kept],
     low: u32,
     middle: u32,
-    back: &[Variant],
+    back: &[Kept],
     high: u32,
 ) -> Result<Vec<bool>, NoMemory>
     requires front { IsRange work.now.count work.now.pieces low middle (length front.now)
@@ -122,14 +119,14 @@ fn halves<R: Threads + Sync, G: Gate>(
             × AreComparable work.now.sig.now work.now.kept.now front.now }
         ensures { IfOk result (λ marks. AreMarks work.entry.now.sig.now work.entry.now.kept.now
             front.entry.now marks.items) }
-    { run(rt, work, gate, front, low, middle) };
+    { run(rt, work, front, low, middle) };
     let right = move || -> Result<Vec<bool>, NoMemory>
         requires { IsSync R.row × IsSync G.row
             × IsRange work.now.count work.now.pieces middle high (length back.now)
             × AreComparable work.now.sig.now work.now.kept.now back.now }
         ensures { IfOk result (λ marks. AreMarks work.entry.now.sig.now work.entry.now.kept.now
             back.entry.now marks.items) }
-    { run(rt, work, gate, back, middle, high) };
+    { run(rt, work, back, middle, high) };
     let (first, second) = join(rt, left, right);
     let mut marks = first?;
     let mut rest = second?;
@@ -147,7 +144,7 @@ pub fn marks<R: Threads + Sync, G: Gate>(
     alloc: Global,
     sig: &Signature,
     kept: &[Kept],
-    candidates: &[Variant],
+    candidates: &[Kept],
     workers: u32,
     gate: &G,
 ) -> Result<Vec<bool>, NoMemory>
@@ -164,9 +161,10 @@ pub fn marks<R: Threads + Sync, G: Gate>(
         alloc,
         sig,
         kept,
+        gate,
         count,
         pieces,
     };
-    let m = run(rt, &work, gate, candidates, 0, pieces)?;
+    let m = run(rt, &work, candidates, 0, pieces)?;
     Ok(m)
 }

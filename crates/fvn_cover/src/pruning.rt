@@ -4,7 +4,7 @@ ghost use Rattle.fvn_cover.specs.Covering.{CoversVariant, AreAlike, IsFlatVarian
 ghost use Rattle.fvn_cover.specs.Pruning.{IsCoveredBySome, IsPruned};
 ghost use Rattle.fvn_cover.specs.Adding.{IsLeft, IsAdded};
 
-use crate::keeping::Kept;
+use crate::keeping::{Kept, all_kept};
 use crate::laws::covering_of_variants_is_a_preorder;
 use crate::variant::Variant;
 use fvn_cover_counts::Unkept;
@@ -117,7 +117,7 @@ fn variants(alloc: Global, list: Vec<Kept>) -> Result<Vec<Variant>, NoMemory>
 /// The list without those that another member covers; of members that cover each other the first stays.
 ///
 /// The members are moved and not copied. Each is compared with those that are kept when its turn comes.
-pub fn prune(alloc: Global, sig: &Signature, list: Vec<Variant>) -> Result<Vec<Variant>, NoMemory>
+pub fn prune_kept(alloc: Global, sig: &Signature, list: Vec<Kept>) -> Result<Vec<Variant>, NoMemory>
     requires flat { All (IsFlatVariant sig.now) list.items }
     requires alike { All (λ a. All (AreAlike a) list.items) list.items }
     ensures pruned { IfOk result (λ kept. IsPruned sig.now list.items kept.items) }
@@ -125,9 +125,19 @@ pub fn prune(alloc: Global, sig: &Signature, list: Vec<Variant>) -> Result<Vec<V
     covering_of_variants_is_a_preorder();
     let mut kept = Vec::new(alloc);
     for v in list {
-        let v = Kept::new(alloc, sig, v)?;
         kept = with_member(alloc, sig, kept, v)?;
     }
     let vs = variants(alloc, kept)?;
     Ok(vs)
+}
+
+/// The same of variants that are not ready to be compared yet.
+pub fn prune(alloc: Global, sig: &Signature, list: Vec<Variant>) -> Result<Vec<Variant>, NoMemory>
+    requires flat { All (IsFlatVariant sig.now) list.items }
+    requires alike { All (λ a. All (AreAlike a) list.items) list.items }
+    ensures pruned { IfOk result (λ kept. IsPruned sig.now list.items kept.items) }
+{
+    let all = all_kept(alloc, sig, list)?;
+    let kept = prune_kept(alloc, sig, all)?;
+    Ok(kept)
 }

@@ -1,5 +1,5 @@
 -- The two forms to which an overlap leads under a unifier.
-use Rattle.std.proofs.Common.{◌≡◌, ℕ, inl, inr, sym, ap, ◌∙◌, subst, refl}
+use Rattle.std.proofs.Common.{◌≡◌, inl, inr, sym, ap, ◌∙◌, subst, refl}
 use Rattle.fvn_terms.specs.declared.plain.SortId.{SortId}
 use Rattle.fvn_terms.specs.declared.declarations.Declarations.{Declarations}
 use Rattle.fvn_terms.specs.Term.{Term}
@@ -20,14 +20,15 @@ use Rattle.fvn_flat.specs.Bindings.{Bindings, value}
 use Rattle.fvn_flat.specs.Fits.{Fits}
 use Rattle.fvn_flat.specs.Solving.{substitution}
 use Rattle.fvn_flat.proofs.Instances.{inst_fits}
-use Rattle.fvn_rewrite_laws.specs.Laws.{RuleLaws}
+use Rattle.fvn_rewrite_laws.specs.Laws.{RuleLaws, RulesAreLawful}
 use Rattle.fvn_rewrite.specs.Usable.{Rewriting, AreUsable, equations_by}
 use Rattle.fvn_places.specs.Putting.{IsPut, PutAs}
 use Rattle.fvn_lifting.specs.Laws.{AreUsed}
-use Rattle.fvn_critical_pairs.specs.Overlaps.{Overlap, inner_result, IsOverlap}
+use Rattle.fvn_critical_pairs.specs.Overlaps.{Overlap, inner_result}
 use Rattle.fvn_critical_pairs.proofs.RenewedRules.{new_left_fits, new_right_fits}
+use Rattle.fvn_critical.specs.declared.pairing.Meeting.{Meeting}
 use Rattle.fvn_critical.specs.Faults.{IsCriticalForm}
-use Rattle.fvn_critical.specs.inner.Testing.{IsDrawnFor}
+use Rattle.fvn_critical.specs.inner.Testing.{overlap_in, IsTestable, IsDrawnFor}
 
 -- instances by flat values
 instance_is : (d : Declarations) (s : Bindings) → SettledValues d (value s) → (t : FlatTerm) → inst d (value s) t ≡ canon d (apply (substitution s) (plain t))
@@ -36,21 +37,44 @@ instance_is d s settled t = sym (eval_apply d fvar (substitution s) (plain t) �
 pub used_by : (r : Rewriting) → IsGood r.signature → IsCompleted r.signature → AreUsable r.signature r.rules → AreUsed r.signature (equations_by r) r.rules
 used_by r good completed usable = record { good = good; completed = completed; same = refl; admissible = usable.admissible; rules = usable.rules }
 
-module _ (r : Rewriting) (good : IsGood r.signature) (completed : IsCompleted r.signature) (usable : AreUsable r.signature r.rules) (rules : RuleLaws r.signature (equations_by r))
-    (drawn : Problem → Substitution → Type 0) (next : ℕ) (o : Overlap) (is : IsOverlap r.signature r.rules next o) where
+-- what a call over the signature gives
+pub applied : (r : Rewriting) (s : Bindings) (d : Declarations) → d ≡ r.signature → (t form : FlatTerm) → form ≡ inst d (value s) t → form ≡ inst r.signature (value s) t
+applied r s d same t form e = e ∙ ap (λ x. inst x (value s) t) same
+
+-- what is known where an overlap is tested
+pub record IsKnown (r : Rewriting) (m : Meeting) : Type 0 where
+  pub good : IsGood r.signature
+  pub completed : IsCompleted r.signature
+  pub usable : AreUsable r.signature r.rules
+  pub lawful : RuleLaws r.signature (equations_by r)
+  pub testable : IsTestable r m
+
+pub known : (r : Rewriting) (m : Meeting) → IsGood r.signature → IsCompleted r.signature → AreUsable r.signature r.rules → RulesAreLawful → IsTestable r m → IsKnown r m
+known r m good completed usable laws testable = record {
+  good = good;
+  completed = completed;
+  usable = usable;
+  lawful = laws r.signature good completed (equations_by r) (λ e i. (usable.admissible e i).kinded.kinds);
+  testable = testable;
+}
+
+module _ (r : Rewriting) (m : Meeting) (k : IsKnown r m) where
+  abbrev o : Overlap
+  o = overlap_in m
+
   abbrev d : Declarations
   d = r.signature
 
   abbrev used : AreUsed d (equations_by r) r.rules
-  used = used_by r good completed usable
+  used = used_by r k.good k.completed k.usable
 
   pub outer_left_fits : Fits d o.outer.left
-  outer_left_fits = new_left_fits d r.rules used rules next is.rule o.outer is.given is.renewed
+  outer_left_fits = new_left_fits d r.rules used k.lawful m.next k.testable.rule o.outer k.testable.given k.testable.renewed
 
   pub outer_right_fits : Fits d o.outer.right
-  outer_right_fits = new_right_fits d r.rules used rules next is.rule o.outer is.given is.renewed
+  outer_right_fits = new_right_fits d r.rules used k.lawful m.next k.testable.rule o.outer k.testable.given k.testable.renewed
 
-  module _ (s : Bindings) (u : IsDrawnFor r drawn o s) where
+  module _ (drawn : Problem → Substitution → Type 0) (s : Bindings) (u : IsDrawnFor r drawn o s) where
     abbrev pub by : Substitution
     by = substitution s
 
@@ -59,24 +83,24 @@ module _ (r : Rewriting) (good : IsGood r.signature) (completed : IsCompleted r.
     first_is = instance_is d s u.fits.settled o.outer.right
 
     pub first_told : IsCriticalForm r drawn (inst d (value s) o.outer.right)
-    first_told = record { next = next; overlap = o; overlaps = is; unifier = s; unifies = u.unifies; is_drawn = u.is_drawn; is = inl first_is }
+    first_told = record { next = m.next; overlap = o; overlaps = k.testable; unifier = s; unifies = u.unifies; is_drawn = u.is_drawn; is = inl first_is }
 
     pub first_fits : Fits d (inst d (value s) o.outer.right)
-    first_fits = inst_fits d (value s) good u.fits o.outer.right outer_right_fits
+    first_fits = inst_fits d (value s) k.good u.fits o.outer.right outer_right_fits
 
-    form_equal : (t : Term) (k : SortId) → HasKind d t k → (form : FlatTerm) → form ≡ canon d (apply by t) → BEqual d (plain form) (apply by t)
-    form_equal t k h form e = BEqual-sym d (subst (λ w. BEqual d (apply by t) (plain w)) (sym e) (to_canon d good.fits (apply by t) k (HasKind-apply d by u.unifies.0.0 t k h)))
+    form_equal : (t : Term) (i : SortId) → HasKind d t i → (form : FlatTerm) → form ≡ canon d (apply by t) → BEqual d (plain form) (apply by t)
+    form_equal t i h form e = BEqual-sym d (subst (λ w. BEqual d (apply by t) (plain w)) (sym e) (to_canon d k.good.fits (apply by t) i (HasKind-apply d by u.unifies.0.0 t i h)))
 
     pub first_equal : BEqual d (plain (inst d (value s) o.outer.right)) (apply by (plain o.outer.right))
-    first_equal = let k = outer_right_fits.kinded in form_equal (plain o.outer.right) k.0 k.1 (inst d (value s) o.outer.right) first_is
+    first_equal = let i = outer_right_fits.kinded in form_equal (plain o.outer.right) i.0 i.1 (inst d (value s) o.outer.right) first_is
 
     pub start_kinded : IsTerm d (apply by (plain o.outer.left))
-    start_kinded = let k = outer_left_fits.kinded in (k.0, HasKind-apply d by u.unifies.0.0 (plain o.outer.left) k.0 k.1)
+    start_kinded = let i = outer_left_fits.kinded in (i.0, HasKind-apply d by u.unifies.0.0 (plain o.outer.left) i.0 i.1)
 
     -- what the inner rule makes of it
     module _ (whole : FlatTerm) (put : PutAs d o.path o.outer.left o.inner.right whole) where
       abbrev p : IsPut d o.path o.at o.outer.left o.inner.right whole
-      p = put o.at is.overlaps.leads
+      p = put o.at k.testable.overlaps.leads
 
       whole_is : whole ≡ canon d (plain (inner_result o))
       whole_is = p.is ∙ ap (λ w. canon d (plain w)) p.along
@@ -88,12 +112,12 @@ module _ (r : Rewriting) (good : IsGood r.signature) (completed : IsCompleted r.
       second_is = ap (inst d (value s)) whole_is ∙ sym (eval_canon d (value s) u.fits.settled (plain (inner_result o))) ∙ instance_is d s u.fits.settled (inner_result o)
 
       pub second_told : IsCriticalForm r drawn (inst d (value s) whole)
-      second_told = record { next = next; overlap = o; overlaps = is; unifier = s; unifies = u.unifies; is_drawn = u.is_drawn; is = inr second_is }
+      second_told = record { next = m.next; overlap = o; overlaps = k.testable; unifier = s; unifies = u.unifies; is_drawn = u.is_drawn; is = inr second_is }
 
       pub second_fits : Fits d (inst d (value s) whole)
-      second_fits = inst_fits d (value s) good u.fits whole whole_fits
+      second_fits = inst_fits d (value s) k.good u.fits whole whole_fits
 
       pub second_equal : BEqual d (plain (inst d (value s) whole)) (apply by (plain (inner_result o)))
       second_equal =
-          let k = subst (λ w. IsTerm d (plain w)) p.along p.kinded in
-          form_equal (plain (inner_result o)) k.0 k.1 (inst d (value s) whole) second_is
+          let i = subst (λ w. IsTerm d (plain w)) p.along p.kinded in
+          form_equal (plain (inner_result o)) i.0 i.1 (inst d (value s) whole) second_is

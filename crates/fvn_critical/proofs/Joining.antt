@@ -47,6 +47,20 @@ pub record IsAnswered (r : Rewriting) (drawn : Problem → Substitution → Type
   pub apart : AreApart r.signature given solved
   pub complete : AreComplete r.signature given solved
 
+-- the solver promises it of its own signature, which is that of the rules
+pub answered_so : (r : Rewriting) (drawn : Problem → Substitution → Type 0) (next : ℕ) (o : Overlap) (given : Pairs) (solved : Solved) → given.pairs ≡ (o.at, o.inner.left) ∷ [] →
+    (d : Declarations) → d ≡ r.signature → AreUnifiers d given solved → AreDrawn d given drawn solved → AreBindings d given solved → AreNumbered d given next solved → AreApart d given solved →
+    AreComplete d given solved → IsAnswered r drawn next o given solved
+answered_so r drawn next o given solved given_is d same sound drawn_all binds fresh apart complete = record {
+  given_is = given_is;
+  sound = subst (λ e. AreUnifiers e given solved) same sound;
+  drawn_all = drawn_all;
+  binds = subst (λ e. AreBindings e given solved) same binds;
+  fresh = subst (λ e. AreNumbered e given next solved) same fresh;
+  apart = subst (λ e. AreApart e given solved) same apart;
+  complete = subst (λ e. AreComplete e given solved) same complete;
+}
+
 module _ (r : Rewriting) (drawn : Problem → Substitution → Type 0) (next : ℕ) (o : Overlap) (given : Pairs) (solved : Solved) (a : IsAnswered r drawn next o given solved) where
   abbrev d : Declarations
   d = r.signature

@@ -1,9 +1,24 @@
 -- Lists of a run, as its variants are copied.
-use Rattle.std.proofs.Common.{◌≡◌, ℕ, List, [], ◌∷◌, ◌++◌, map, sym, ap, ◌∙◌}
+use Rattle.std.proofs.Common.{◌≡◌, ℕ, List, [], ◌∷◌, ◌++◌, map, refl, sym, ap, ◌∙◌}
+use Rattle.std.specs.Prelude.{All}
 use Rattle.std.proofs.lemmas.List.{append_assoc, map-append}
+use Rattle.std.proofs.lemmas.List.Elements.{All-contains, Contains-append_right}
+use Rattle.fvn_terms.specs.declared.declarations.Declarations.{Declarations}
+use Rattle.fvn_flat.specs.Bindings.{Bindings, chosen, is_free}
 use Rattle.fvn_cover.specs.declared.variant.Variant.{Variant}
+use Rattle.fvn_cover.specs.Covering.{IsFlatVariant}
 use Rattle.fvn_exploring.specs.declared.ends.Deep.{Deep}
-use Rattle.fvn_fold.specs.inner.Running.{at_depth, with_next}
+use Rattle.fvn_fold.specs.inner.Running.{at_depth, with_next, AreKept}
+use Rattle.fvn_fold.proofs.Gathers.{all_members}
+
+-- all pairs are of variables that have no pair among none
+pub all_chosen : (s : Bindings) → chosen (is_free []) s ≡ s
+all_chosen [] = refl
+all_chosen (p ∷ s) = ap (λ (l : Bindings). p ∷ l) (all_chosen s)
+
+-- the next level of what is kept is flat
+pub next_flat : (d : Declarations) (kept next : List Variant) → AreKept d (kept ++ next) → All (IsFlatVariant d) next
+next_flat d kept next h = all_members (IsFlatVariant d) next (λ v m. All-contains (IsFlatVariant d) (kept ++ next) v h.flat (Contains-append_right kept next v m))
 
 -- one more of a level
 pub depth_more : (done all : List Deep) (depth : ℕ) (seen : List Variant) (v : Variant) → all ≡ done ++ map (at_depth depth) seen → all ++ at_depth depth v ∷ [] ≡ done ++ map (at_depth depth) (seen ++ v ∷ [])

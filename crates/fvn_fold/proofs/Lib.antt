@@ -9,7 +9,6 @@ mod Outcomes
 mod Turning
 mod Firsts
 mod Takings
-mod Pairs
 mod Chunks
 mod Begins
 mod Rounds

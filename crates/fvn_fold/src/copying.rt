@@ -1,9 +1,12 @@
 //! Copies of variants.
 ghost use Rattle.std.specs.Prelude.{◌≡◌, IfOk};
+ghost use Rattle.fvn_cover.specs.Covering.{IsFlatVariant};
+ghost use Rattle.fvn_flat.specs.Bindings.{BindingsFit};
 
 use fvn_base::Seq;
 use fvn_cover::Variant;
 use fvn_flat::{Flat, Subst};
+use fvn_signature::Signature;
 use fvn_terms::NoMemory;
 use std::alloc::Global;
 
@@ -19,26 +22,23 @@ fn terms(alloc: Global, ts: &[Flat]) -> Result<Vec<Flat>, NoMemory>
     Ok(all)
 }
 
-// The same substitution, in memory of its own.
-fn substitution(alloc: Global, s: &Subst) -> Result<Subst, NoMemory>
+// The same substitution, in memory of its own: it comes after one that binds nothing, which takes one walk.
+fn substitution(alloc: Global, sig: &Signature, s: &Subst) -> Result<Subst, NoMemory>
+    requires { BindingsFit sig.now s.now }
     ensures { IfOk result (λ r. r ≡ s.now) }
 {
-    s.recall_bindings();
-    let mut all = Subst::empty(alloc);
-    let count = s.len();
-    for i in 0..count {
-        let (x, t) = s.pair(i);
-        all = all.bind(alloc, x, t)?;
-    }
+    let nothing = Subst::empty(alloc);
+    let all = nothing.compose(alloc, sig, s)?;
     Ok(all)
 }
 
 /// The same variant, in memory of its own.
-pub(crate) fn copy(alloc: Global, v: &Variant) -> Result<Variant, NoMemory>
+pub(crate) fn copy(alloc: Global, sig: &Signature, v: &Variant) -> Result<Variant, NoMemory>
+    requires { IsFlatVariant sig.now v.now }
     ensures { IfOk result (λ c. c ≡ v.now) }
 {
     let ts = terms(alloc, v.terms.as_slice())?;
-    let subst = substitution(alloc, &v.subst)?;
+    let subst = substitution(alloc, sig, &v.subst)?;
     let vars = Seq::from_slice(alloc, v.vars.as_slice())?;
     Ok(Variant {
         terms: Seq::from_vec(ts),

@@ -13,11 +13,12 @@ use fvn_terms::NoMemory;
 use std::alloc::Global;
 use std::thread::{Threads, join};
 
-// What all pieces share: the expander, and how many pieces so many members are cut into.
+// What all pieces share: the expander, the gate, and how many pieces so many members are cut into.
 #[derive(Drop)]
-struct Work<'a, E: Expander> {
+struct Work<'a, G: Gate, E: Expander> {
     alloc: Global,
     expander: &'a E,
+    gate: &'a G,
     count: usize,
     pieces: u32,
 }
@@ -44,8 +45,7 @@ fn expanded<E: Expander>(
 #[cycle(pieces)]
 fn run<R: Threads + Sync, G: Gate, E: Expander>(
     rt: &R,
-    work: &Work<'_, E>,
-    gate: &G,
+    work: &Work<'_, G, E>,
     members: &[Variant],
     low: u32,
     high: u32,
@@ -57,7 +57,7 @@ fn run<R: Threads + Sync, G: Gate, E: Expander>(
         members.now es.items) }
 {
     if high - low == 1 {
-        gate.enter(low);
+        work.gate.enter(low);
         let es = expanded(work.alloc, work.expander, members)?;
         return Ok(es);
     }
@@ -65,7 +65,7 @@ fn run<R: Threads + Sync, G: Gate, E: Expander>(
     let begin = piece_start(work.count, work.pieces, low);
     let size = piece_start(work.count, work.pieces, middle) - begin;
     let (front, back) = members.split_at(size);
-    let es = halves(rt, work, gate, front, low, middle, back, high)?;
+    let es = halves(rt, work, front, low, middle, back, high)?;
     Ok(es)
 }
 
@@ -73,8 +73,7 @@ fn run<R: Threads + Sync, G: Gate, E: Expander>(
 #[cycle(pieces)]
 fn halves<R: Threads + Sync, G: Gate, E: Expander>(
     rt: &R,
-    work: &Work<'_, E>,
-    gate: &G,
+    work: &Work<'_, G, E>,
     front: &[Variant],
     low: u32,
     middle: u32,
@@ -95,14 +94,14 @@ fn halves<R: Threads + Sync, G: Gate, E: Expander>(
             × AreExpandable (E.setting work.now.expander.now) front.now }
         ensures { IfOk result (λ es. AreExpansions (E.setting work.entry.now.expander.now)
             (E.drawn work.entry.now.expander.now) front.entry.now es.items) }
-    { run(rt, work, gate, front, low, middle) };
+    { run(rt, work, front, low, middle) };
     let right = move || -> Result<Vec<Expansion>, NoMemory>
         requires { IsSync R.row × IsSync G.row × IsSync E.row
             × IsRange work.now.count work.now.pieces middle high (length back.now)
             × AreExpandable (E.setting work.now.expander.now) back.now }
         ensures { IfOk result (λ es. AreExpansions (E.setting work.entry.now.expander.now)
             (E.drawn work.entry.now.expander.now) back.entry.now es.items) }
-    { run(rt, work, gate, back, middle, high) };
+    { run(rt, work, back, middle, high) };
     let (first, second) = join(rt, left, right);
     let mut es = first?;
     let mut rest = second?;
@@ -136,9 +135,10 @@ pub fn expand_level<R: Threads + Sync, G: Gate, E: Expander>(
     let work = Work {
         alloc,
         expander,
+        gate,
         count,
         pieces,
     };
-    let es = run(rt, &work, gate, members, 0, pieces)?;
+    let es = run(rt, &work, members, 0, pieces)?;
     Ok(es)
 }

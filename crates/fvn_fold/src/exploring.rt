@@ -71,7 +71,7 @@ fn full(
     let mut front = next;
     let v = front.remove(room).into_variant();
     front.truncate(room);
-    let more = with_level(alloc, run, depth, front)?;
+    let more = with_level(alloc, sig, run, depth, front)?;
     let x = finish(alloc, sig, more, depth + 1, ExploreEnd::Variants(v))?;
     Ok(x)
 }
@@ -103,7 +103,7 @@ fn next_turn(
 {
     let over = is_over(&level);
     let Level { next, end } = level;
-    let more = with_level(alloc, run, depth, next)?;
+    let more = with_level(alloc, sig, run, depth, next)?;
     if !over {
         return Ok(Turn::On(more));
     }

@@ -7,7 +7,9 @@ ghost use Rattle.fvn_exploring.specs.declared.ends.ExpandEnd.TheVariants.{Whole}
 ghost use Rattle.fvn_fold.specs.inner.Gathering.{IsTask, AreReady, IsGatheredFrom, IsMarkedOrAdded, AreTaken, AreNext, IsMoreOfLevel, IsNextLevel};
 
 use crate::expanding::expand_level;
-use fvn_cover::{Gate, Kept, Variant, covering_of_variants_is_a_preorder, marks, with_member};
+use fvn_cover::{
+    Gate, Kept, Variant, all_kept, covering_of_variants_is_a_preorder, marks, with_member,
+};
 use fvn_exploring::{ExpandEnd, Expander, Expansion, Limits};
 use fvn_signature::Signature;
 use fvn_terms::NoMemory;
@@ -77,7 +79,7 @@ fn with_candidate(
     alloc: Global,
     sig: &Signature,
     before: Vec<Kept>,
-    candidate: Variant,
+    candidate: Kept,
     mark: bool,
 ) -> Result<Vec<Kept>, NoMemory>
     requires flat { IsFlatVariant sig.now candidate × All (IsFlatVariant sig.now) before.items }
@@ -88,8 +90,7 @@ fn with_candidate(
     if mark {
         return Ok(before);
     }
-    let k = Kept::new(alloc, sig, candidate)?;
-    let after = with_member(alloc, sig, before, k)?;
+    let after = with_member(alloc, sig, before, candidate)?;
     Ok(after)
 }
 
@@ -99,7 +100,7 @@ fn taken(
     sig: &Signature,
     kept: &[Kept],
     before: Vec<Kept>,
-    candidates: Vec<Variant>,
+    candidates: Vec<Kept>,
     marks: &[bool],
 ) -> Result<Vec<Kept>, NoMemory>
     requires comparable { AreComparable sig.now kept.now candidates.items }
@@ -144,12 +145,13 @@ fn chunk_level<R: Threads + Sync, G: Gate, E: Expander>(
     let expansions = expand_level(rt, task.alloc, task.expander, members, workers, gate)?;
     let found = gather(task.alloc, expansions)?;
     let Gathered { candidates, end } = found;
+    let children = all_kept(task.alloc, task.sig, candidates)?;
     let covered = marks(
         rt,
         task.alloc,
         task.sig,
         kept,
-        candidates.as_slice(),
+        children.as_slice(),
         workers,
         gate,
     )?;
@@ -158,7 +160,7 @@ fn chunk_level<R: Threads + Sync, G: Gate, E: Expander>(
         task.sig,
         kept,
         before,
-        candidates,
+        children,
         covered.as_slice(),
     )?;
     Ok(Level { next, end })

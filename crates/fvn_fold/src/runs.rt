@@ -6,7 +6,7 @@ ghost use Rattle.fvn_fold.specs.inner.Running.{at_depth, lists_of, deep_of, with
 
 use crate::copying::copy;
 use fvn_base::Seq;
-use fvn_cover::{Kept, Variant, prune};
+use fvn_cover::{Kept, Variant, prune_kept};
 use fvn_exploring::{Deep, ExploreEnd, Explored};
 use fvn_signature::Signature;
 use fvn_terms::NoMemory;
@@ -42,7 +42,7 @@ pub(crate) fn first_run(alloc: Global, sig: &Signature, start: Variant) -> Resul
     ensures { IfOk result (λ r.
         (r.done.items ≡ []) × (r.members.items ≡ start ∷ []) × (r.kept.items ≡ start ∷ [])) }
 {
-    let other = copy(alloc, &start)?;
+    let other = copy(alloc, sig, &start)?;
     let own = Kept::new(alloc, sig, other)?;
     let mut kept = Vec::new(alloc);
     kept.push(own)?;
@@ -58,10 +58,12 @@ pub(crate) fn first_run(alloc: Global, sig: &Signature, start: Variant) -> Resul
 /// The run with one more level.
 pub(crate) fn with_level(
     alloc: Global,
+    sig: &Signature,
     run: Run,
     depth: u32,
     next: Vec<Kept>,
 ) -> Result<Run, NoMemory>
+    requires { AreKept sig.now (run.kept.items ++ next.items) }
     ensures { IfOk result (λ r. lists_of r ≡ with_next (lists_of run) depth next.items) }
 {
     let Run {
@@ -73,7 +75,7 @@ pub(crate) fn with_level(
     let mut all = kept;
     let mut last = Vec::new(alloc);
     for k in next {
-        let member = copy(alloc, k.variant())?;
+        let member = copy(alloc, sig, k.variant())?;
         all.push(k)?;
         last.push(member)?;
     }
@@ -82,17 +84,6 @@ pub(crate) fn with_level(
         members: last,
         kept: all,
     })
-}
-
-// The variants alone.
-fn variants(alloc: Global, list: Vec<Kept>) -> Result<Vec<Variant>, NoMemory>
-    ensures { IfOk result (λ vs. vs.items ≡ list.items) }
-{
-    let mut vs = Vec::new(alloc);
-    for k in list {
-        vs.push(k.into_variant())?;
-    }
-    Ok(vs)
 }
 
 /// What was explored, where the members of the run are of this level.
@@ -114,8 +105,7 @@ pub(crate) fn finish(
         kept,
     } = run;
     let all = with_depth(alloc, done, members, depth)?;
-    let list = variants(alloc, kept)?;
-    let given = prune(alloc, sig, list)?;
+    let given = prune_kept(alloc, sig, kept)?;
     Ok(Explored {
         kept: Seq::from_vec(all),
         variants: Seq::from_vec(given),

@@ -14,7 +14,7 @@ use Rattle.fvn_cmd_vunify.specs.Solutions as modulo
 use Rattle.fvn_cmd_laws.proofs.Verified.{verdict_answering}
 use Rattle.fvn_cmd_laws.proofs.Unified.{end_answering}
 use Rattle.fvn_cmd_laws.proofs.Weighed.{weighing_answering}
-use Rattle.fvn_tool.specs.Words.{Command, IsCommand, AreNoCommand, ReadsModule, ReadNothing, own_text, text_for}
+use Rattle.fvn_tool.specs.Words.{Command, work, IsCommand, AreNoCommand, ReadsModule, ReadNothing, own_text, text_for}
 use Rattle.fvn_tool.specs.Runs.{Outside, Run, Leaves, HasFailed}
 use Rattle.fvn_tool.specs.Asked.{Question, summary, unifiers, verdict, termination, term_variants, theory_unifiers, count, Asked, IsShort, IsAsked, AsksNothing, IsRefused}
 use Rattle.fvn_tool.specs.Answered.{AnswerTo, status_of, Answers, IsAnswered, IsReply}
@@ -22,10 +22,10 @@ use Rattle.fvn_tool.specs.Outcomes.{usage_line, IsOutcome, no_command, too_long,
 use Rattle.fvn_tool.specs.Claims.{RefusesWords, Asks, AnswersCommand, IsReport}
 use Rattle.fvn_cmd_laws.specs.Laws.{VerdictsAreExact, AnswersAreExact, ExploredAnswersAreExact}
 use Rattle.fvn_tool.specs.Laws.{QuestionsAreDetermined}
-use Rattle.fvn_tool.specs.inner.Steps.{IsGivenOutcome}
+use Rattle.fvn_tool.specs.inner.Steps.{IsCommandReply, IsGivenOutcome, is_usage, is_long, is_replied}
 use Rattle.fvn_tool.proofs.Grammar.{one_command}
 use Rattle.fvn_tool.proofs.Replying.{given_outcome}
-use Rattle.fvn_tool.proofs.Outcomes.{Leaves-weaker, Leaves-goes, answering_spoken, refusing_spoken, refusing_not_answering, refused_refusing, without_fault}
+use Rattle.fvn_tool.proofs.Outcomes.{Leaves-weaker, Leaves-goes, answering_spoken, refusing_spoken, refusing_not_answering, refused_refusing, count_answering, without_fault}
 
 -- Where the source tells its bytes
 
@@ -145,6 +145,13 @@ module _ (run : Run) (h : Leaves (IsOutcome run.words run.source) run.status run
           (b.0, b.1.0);
     }
 
+-- what is written for `work` is an answer
+work_answering : (words : List (List ℕ)) (source : Outside) (number : ℕ) → IsCommand words (work number) → (s : Status) (t : List ℕ) → IsGivenOutcome words source s t → IsAnswering s
+work_answering words source number is_work s t (is_usage none is) = absurd (none (work number) is_work)
+work_answering words source number is_work s t (is_long c h r n is) = let reads = subst ReadsModule (one_command words c (work number) h is_work) r in cc
+work_answering words source number is_work s t (is_replied c b h n f r) =
+    count_answering number b s t (subst (λ x. IsCommandReply x b s t) (one_command words c (work number) h is_work) r)
+
 -- the outcome that the steps give, what stays the same and the causes of faults are all that there is to prove of a run
 pub report : VerdictsAreExact → AnswersAreExact → ExploredAnswersAreExact → QuestionsAreDetermined → (run : Run) → Leaves (IsGivenOutcome run.words run.source) run.status run.sink → (run.status ≡ ReadFault → HasFailed run.source) → (run.status ≡ WriteFault → HasFailed run.sink) →
     (AreNoCommand run.words → (run.status ≡ Usage) ⊎ (run.status ≡ WriteFault)) →
@@ -161,5 +168,8 @@ report verdicts exact explored questions run given read write always unread unwr
       failed_read = failed;
       written = λ no_read no_write. without_fault run.status (λ e. no_read (read e)) (λ e. no_write (write e));
       usage = refuses_words run h always;
+      made = λ number is_work spoken.
+          let g = Leaves-goes (IsGivenOutcome run.words run.source) run.status run.sink spoken given in
+          work_answering run.words run.source number is_work run.status g.0 g.1;
       answers = answers run h questions;
     }

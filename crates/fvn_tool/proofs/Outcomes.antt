@@ -69,6 +69,10 @@ pub refused_refusing : (bytes : List ℕ) (c : Command) (s : Status) (t : List �
 refused_refusing bytes c s t (inl a) = subst IsRefusing (sym a.1.0) tt
 refused_refusing bytes c s t (inr a) = refusal_refusing a.1
 
+-- the reply to `work` is an answer
+pub count_answering : (number : ℕ) (bytes : List ℕ) (status : Status) (text : List ℕ) → IsCommandReply (work number) bytes status text → IsAnswering status
+count_answering number bytes status text a = subst IsAnswering (sym a.2.1.status_is) (end_answering a.2.1.found.end)
+
 -- the reply of a command has a text
 status_of_check : {s : Status} → s ≡ Solved → IsSpoken s
 status_of_check e = subst IsSpoken (sym e) tt
@@ -91,9 +95,7 @@ reply_spoken (variants word reach) bytes status text (inr a) =
 reply_spoken (vunify word reach) bytes status text (inl r) = refusing_spoken status (refusal_refusing r)
 reply_spoken (vunify word reach) bytes status text (inr a) =
     answering_spoken status (subst IsAnswering (sym a.2.1.status_is) (end_answering (modulo.end_of reach a.2.1.found)))
-reply_spoken (work number) bytes status text (inl r) = refusing_spoken status (refusal_refusing r)
-reply_spoken (work number) bytes status text (inr a) =
-    answering_spoken status (subst IsAnswering (sym a.2.1.status_is) (end_answering a.2.1.found.end))
+reply_spoken (work number) bytes status text a = answering_spoken status (count_answering number bytes status text a)
 
 pub outcome_spoken : {words : List (List ℕ)} {source : Outside} {status : Status} {text : List ℕ} → IsGivenOutcome words source status text → IsSpoken status
 outcome_spoken (is_usage h is) = tt

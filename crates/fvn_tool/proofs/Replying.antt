@@ -88,8 +88,7 @@ module _ (verdicts : VerdictsAreExact) (answers : AnswersAreExact) (explored : E
           },
         ),
       )
-  reply (work number) bytes short s t (inl r) = inl (inr (short, r))
-  reply (work number) bytes short s t (inr a) =
+  reply (work number) bytes short s t a =
       inr (
         record { contents = a.0; question = count a.1 },
         (

@@ -3,7 +3,7 @@ use Rattle.std.specs.Prelude.{◌≡◌, ◌<◌, ◌⊎◌, ℕ, List, Some}
 use Rattle.fvn_cmd.specs.declared.status.Status.TheVariants.{Usage, ReadFault, WriteFault, NoMemory}
 use Rattle.fvn_cmd.specs.Statuses.{IsSilent, IsSpoken, IsAnswering, IsRefusing}
 use Rattle.fvn_cmd.specs.Texts.{Is}
-use Rattle.fvn_tool.specs.Words.{Command, IsCommand, AreNoCommand, ReadsModule, ReadNothing, text_for}
+use Rattle.fvn_tool.specs.Words.{Command, work, IsCommand, AreNoCommand, ReadsModule, ReadNothing, text_for}
 use Rattle.fvn_tool.specs.Runs.{Run, Leaves, HasFailed}
 use Rattle.fvn_tool.specs.Asked.{Asked, IsAsked, AsksNothing, IsRefused}
 use Rattle.fvn_tool.specs.Answered.{Answers}
@@ -44,6 +44,8 @@ pub record IsReport (run : Run) : Type 0 where
       (run.status ≡ NoMemory) ⊎ IsSpoken run.status
   -- words that are no command
   pub usage : RefusesWords run
+  -- `work` is refused nothing: what it asks is made by the program
+  pub made : (number : ℕ) → IsCommand run.words (work number) → IsSpoken run.status → IsAnswering run.status
   -- what each command answers
   pub answers : (command : Command) (bytes : List ℕ) → Asks run command bytes →
       AnswersCommand run command (text_for command bytes)

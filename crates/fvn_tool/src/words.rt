@@ -38,7 +38,8 @@ pub(crate) enum Heard<'a> {
 // What a command of the words means.
 fn meaning(asked: Asked<'_>) -> Heard<'_>
     requires { told.IsWithin asked }
-    ensures { (words : List (List ℕ)) → grammar.IsCommand words (told.meant asked.entry) → IsHeard words result }
+    ensures { (words : List (List ℕ)) → grammar.IsCommand words (told.meant asked.entry) →
+        IsHeard words result }
 {
     match asked {
         Asked::Check => Heard::OverModule(Command::Check),

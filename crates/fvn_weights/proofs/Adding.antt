@@ -8,8 +8,8 @@ use Rattle.fvn_terms.specs.Term.{Term, Terms, var, app, none, nodes, nodes_all}
 use Rattle.fvn_terms.specs.Plain.{term, terms}
 use Rattle.fvn_weights.specs.declared.forms.Form.{Form}
 use Rattle.fvn_weights.specs.Values.{Linear, value, value_from, constant_of, factor_of, without_constants, one_at}
-use Rattle.fvn_weights.specs.inner.Numbers.{found, capped, IsMore}
-use Rattle.fvn_weights.specs.inner.Forms.{IsAdded, AreAdded, IsFormOf}
+use Rattle.fvn_weights.specs.inner.Numbers.{found, capped, IsRaised}
+use Rattle.fvn_weights.specs.inner.Forms.{IsPlaced, IsAdded, AreAdded, IsFormOf}
 use Rattle.fvn_weights.proofs.Capping.{head_more, argument_more}
 
 -- an argument has no more nodes than all
@@ -61,16 +61,18 @@ none_more n k = omega arith
 
 module _ (w : Linear) (k : ℕ) where
   -- a variable is added
-  pub variable_added : (x : Var) (before after : Form) → after.constant ≡ before.constant → IsMore x k before.factors.items after.factors.items → IsAdded w k (var x) before after
+  pub variable_added : (x : Var) (before after : Form) → after.constant ≡ before.constant → IsRaised x k before.factors.items after.factors.items after.starts.items → IsAdded w k (var x) before after
   variable_added x before after same h = record {
+    placed = h.placed;
     constant_is = ap capped (same ∙ none_more before.constant k);
-    factors_are = h;
+    factors_are = h.raised;
   }
 
   -- an operator is added, and then its arguments
   pub head_added : (f : OpId) (us : Terms) (before begun after : Form) → begun.constant ≡ capped (before.constant + capped (k * w.constant f)) → begun.factors.items ≡ before.factors.items →
       AreAdded w k f us begun after → IsAdded w k (app f us) before after
   head_added f us before begun after is same h = record {
+    placed = h.placed;
     constant_is = head_more before.constant begun.constant after.constant k (w.constant f) (value_from w (λ x. 0) f 0 us) is h.constant_is;
     factors_are = λ x.
         h.factors_are x
@@ -79,8 +81,9 @@ module _ (w : Linear) (k : ℕ) where
   }
 
   -- no argument is added
-  pub none_added : (f : OpId) (form : Form) → AreAdded w k f none form form
-  none_added f form = record {
+  pub none_added : (f : OpId) (form : Form) → IsPlaced form → AreAdded w k f none form form
+  none_added f form placed = record {
+    placed = placed;
     constant_is = ap capped (none_more form.constant k);
     factors_are = λ x. ap capped (none_more (found form.factors.items x) k);
   }
@@ -89,6 +92,7 @@ module _ (w : Linear) (k : ℕ) where
   pub one_added : (f : OpId) (items : List Plain) (i : ℕ) (u : Plain) (first before after : Form) (many : ℕ) → i < length items → u ≡ get_or items i u → many ≡ capped (k * w.coefficient f i) →
       AreAdded w k f (terms (take i items)) first before → IsAdded w many (term u) before after → AreAdded w k f (terms (take (i + 1) items)) first after
   one_added f items i u first before after many within is counted so_far added = record {
+    placed = added.placed;
     constant_is =
         argument_more first.constant before.constant after.constant k (value_from w (λ x. 0) f 0 (terms (take i items))) many (w.coefficient f i) (constant_of w (term u)) counted so_far.constant_is added.constant_is
         ∙ ap (λ n. capped (first.constant + k * n)) (sym (from_taken w (λ x. 0) f items i u within is));
@@ -104,6 +108,7 @@ once n = omega arith
 -- added once to nothing
 pub added_to_none : (w : Linear) (t : Term) (empty form : Form) → empty.constant ≡ 0 → empty.factors.items ≡ [] → IsAdded w 1 t empty form → IsFormOf w t form
 added_to_none w t empty form zero_is none_is h = record {
+  placed = h.placed;
   constant_is = h.constant_is ∙ ap (λ n. capped (n + 1 * constant_of w t)) zero_is ∙ ap capped (once (constant_of w t));
   factors_are = λ x. h.factors_are x ∙ ap (λ l. capped (found l x + 1 * factor_of w x t)) none_is ∙ ap capped (once (factor_of w x t));
 }

@@ -1,5 +1,5 @@
 -- What forms show is what the values show.
-use Rattle.std.proofs.Common.{◌≡◌, ◌≤◌, ◌<◌, ◌+◌, ◌↔◌, ℕ, Bool, true, false, List, length, drop, get_or, refl, sym, subst, inl, inr, arith}
+use Rattle.std.proofs.Common.{◌≡◌, ◌≤◌, ◌<◌, ◌+◌, ◌↔◌, ℕ, Bool, true, false, List, Option, Some, None, length, get_or, refl, sym, subst, ap, ◌∙◌, inl, inr, arith, below_more}
 use Rattle.std.specs.Prelude.{IsTrue}
 use Rattle.std.proofs.lemmas.Bool.{cases_lt}
 use Rattle.fvn_terms.specs.declared.plain.Var.{Var}
@@ -12,11 +12,11 @@ use Rattle.fvn_weights.specs.declared.comparing.Outcome.{Outcome}
 use Rattle.fvn_weights.specs.declared.comparing.Outcome.TheVariants.{Falling, Big, Growing}
 use Rattle.fvn_weights.specs.Values.{Linear, constant_of, factor_of}
 use Rattle.fvn_weights.specs.Weighing.{IsOver, IsBig, IsGrowing}
-use Rattle.fvn_weights.specs.inner.Numbers.{found}
+use Rattle.fvn_weights.specs.inner.Numbers.{found, place, TellsAbove}
 use Rattle.fvn_weights.specs.inner.Forms.{IsFormOf, IsOverForm, AreOver, IsGrowingForm, ShowForms}
 use Rattle.fvn_weights.specs.inner.Equations.{IsOutcome}
 use Rattle.fvn_weights.proofs.Capping.{over_alike, small_alike}
-use Rattle.fvn_weights.proofs.Placing.{rest_turn, rest_done}
+use Rattle.fvn_weights.proofs.Placing.{placed_within, placed_variable, placed_number, unplaced_number}
 use Rattle.fvn_weights.proofs.FitTests.{contradicts}
 
 -- what is not above is at most that
@@ -26,27 +26,47 @@ not_above a b h = elim (cases_lt a b) as (λ _. b ≤ a) [
   | inr le ↦ le
 ]
 
--- a number above the bound of its variable, looked for from the front
-module _ (bound : Var → ℕ) (ps : List (Var × ℕ)) where
-  pub none_before : (x : Var) → found (drop 0 ps) x ≡ 0 → found ps x ≤ bound x
-  none_before x e = let nothing : found ps x ≡ 0 = e in omega (arith, nothing)
-
-  pub passed_over : (i : ℕ) (d : Var × ℕ) (b : Bool) → i < length ps → (IsTrue b ↔ (bound (get_or ps i d).0 < found ps (get_or ps i d).0)) → b ≡ false →
-      ((x : Var) → found (drop i ps) x ≡ 0 → found ps x ≤ bound x) → (x : Var) → found (drop (i + 1) ps) x ≡ 0 → found ps x ≤ bound x
-  passed_over i d b within test e rest =
-      rest_turn (λ x. found ps x ≤ bound x) ps i d within (not_above (bound (get_or ps i d).0) (found ps (get_or ps i d).0) (λ h. contradicts b (test.1 h) e)) rest
-
-  pub one_above : (i : ℕ) (d : Var × ℕ) (b : Bool) → (IsTrue b ↔ (bound (get_or ps i d).0 < found ps (get_or ps i d).0)) → b ≡ true → IsTrue true ↔ ((x : Var) × (bound x < found ps x))
-  one_above i d b test e = (λ t. ((get_or ps i d).0, test.0 e), λ h. refl)
-
-  pub none_above : (i : ℕ) → length ps ≤ i → ((x : Var) → found (drop i ps) x ≡ 0 → found ps x ≤ bound x) → IsTrue false ↔ ((x : Var) × (bound x < found ps x))
-  none_above i le rest = (λ t. absurd (contradicts false t refl), λ p. absurd (let q = rest_done (λ x. found ps x ≤ bound x) ps i le rest p.0 in let h = p.1 in omega (arith, q, h)))
-
 -- lists that are the same have the same numbers
-pub growth_of : (s : Bool) (ps qs vs ws : List (Var × ℕ)) → ps ≡ vs → qs ≡ ws → (IsTrue s ↔ ((x : Var) × (found ps x < found qs x))) → IsTrue s ↔ ((x : Var) × (found vs x < found ws x))
-growth_of s ps qs vs ws p q h =
-    subst (λ (l : List (Var × ℕ)). IsTrue s ↔ ((x : Var) × (found vs x < found l x))) q
-    (subst (λ (l : List (Var × ℕ)). IsTrue s ↔ ((x : Var) × (found l x < found qs x))) p h)
+pub found_alike : (n : ℕ) (ps qs : List (Var × ℕ)) (x : Var) → n ≡ found ps x → ps ≡ qs → n ≡ found qs x
+found_alike n ps qs x e same = e ∙ ap (λ l. found l x) same
+
+-- whether the number of some variable is above its bound, place by place
+module _ (bound : Var → ℕ) (ps : List (Var × ℕ)) where
+  -- the number that stands there is not above
+  pub own_at_most : (i : ℕ) (d : Var × ℕ) (b : Bool) (m : ℕ) → m ≡ bound (get_or ps i d).0 → (IsTrue b ↔ (m < (get_or ps i d).1)) → b ≡ false → TellsAbove bound ps i false
+  own_at_most i d b m is test e = λ x p.
+      let n : found ps x ≡ (get_or ps i d).1 = placed_number x ps i d p in
+      let le : (get_or ps i d).1 ≤ m = not_above m (get_or ps i d).1 (λ h. contradicts b (test.1 h) e) in
+      let same : m ≡ bound x = is ∙ ap bound (placed_variable x ps i d p) in
+      omega (arith, n, le, same)
+
+  -- the number of the variable is tested
+  pub tells_above : (i : ℕ) (d : Var × ℕ) (b : Bool) (m n : ℕ) → m ≡ bound (get_or ps i d).0 → n ≡ found ps (get_or ps i d).0 → (IsTrue b ↔ (m < n)) → TellsAbove bound ps i b
+  tells_above i d true m n e f test = ((get_or ps i d).0, let h : m < n = test.0 refl in omega (arith, e, f, h))
+  tells_above i d false m n e f test = λ x p.
+      let le : n ≤ m = not_above m n (λ h. contradicts false (test.1 h) refl) in
+      let same : m ≡ bound x = e ∙ ap bound (placed_variable x ps i d p) in
+      let number : n ≡ found ps x = f ∙ ap (found ps) (placed_variable x ps i d p) in
+      omega (arith, le, same, number)
+
+  -- none so far
+  pub none_told : (j : ℕ) → j < 0 → TellsAbove bound ps j false
+  none_told j l = absurd (omega (arith, l))
+
+  pub one_passed : (i : ℕ) (b : Bool) → TellsAbove bound ps i b → b ≡ false → ((j : ℕ) → j < i → TellsAbove bound ps j false) → (j : ℕ) → j < i + 1 → TellsAbove bound ps j false
+  one_passed i b h e before = below_more (λ j. TellsAbove bound ps j false) i before (subst (TellsAbove bound ps i) e h)
+
+  pub one_above : (i : ℕ) (b : Bool) → TellsAbove bound ps i b → b ≡ true → IsTrue true ↔ ((x : Var) × (bound x < found ps x))
+  one_above i b h e = (λ t. subst (TellsAbove bound ps i) e h, λ p. refl)
+
+  pub none_above : (i : ℕ) → length ps ≤ i → ((j : ℕ) → j < i → TellsAbove bound ps j false) → IsTrue false ↔ ((x : Var) × (bound x < found ps x))
+  none_above i le before = (λ t. absurd (contradicts false t refl), λ p. absurd (above p.0 p.1))
+    where
+      above : (x : Var) → bound x < found ps x → ⊥
+      above x h = go (place ps x) refl where
+        go : (o : Option ℕ) → place ps x ≡ o → ⊥
+        go None e = let z : found ps x ≡ 0 = unplaced_number x ps e in omega (arith, z, h)
+        go (Some j) e = let l = placed_within x ps j e in let q : found ps x ≤ bound x = before j (omega (arith, l, le)) x e in omega (arith, q, h)
 
 module _ (w : Linear) where
   over_there : (t : Term) (form : Form) → IsFormOf w t form → IsOverForm form → IsOver w t

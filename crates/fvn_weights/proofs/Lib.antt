@@ -3,8 +3,10 @@ mod Linearity
 mod Kept
 mod Falling
 mod Capping
-mod Placing
-mod Adding
 mod FitTests
+mod Firsts
+mod Placing
+mod Starting
+mod Adding
 mod FormTests
 mod Equations

@@ -1,15 +1,15 @@
 -- Where a variable stands in a list, and its number.
-use Rattle.std.proofs.Common.{◌≡◌, ◌≤◌, ◌<◌, ◌+◌, ◌*◌, ℕ, zero, suc, Bool, true, false, List, [], ◌∷◌, ◌++◌, set, Option, Some, None, length, refl, sym, subst, ap, ◌∙◌, arith}
+use Rattle.std.proofs.Common.{◌≡◌, ◌<◌, ◌+◌, ◌*◌, ℕ, zero, suc, Bool, true, false, List, [], ◌∷◌, ◌++◌, set, Option, Some, None, length, refl, sym, ap, ◌∙◌, arith}
 use mathlib.Core.Bool.{beq}
 use Rattle.fvn_base.proofs.Options.{Some-injective}
 use Rattle.std.specs.Prelude.{◌&&◌, drop, get_or, option_map, if◌then◌else◌}
 use Rattle.fvn_terms.specs.declared.plain.Var.{Var}
 use Rattle.fvn_terms.specs.Substitution.{same_var, same_truth}
-use Rattle.std.proofs.lemmas.List.{drop_all}
 use Rattle.fvn_terms.proofs.Variables.{same_var_is, same_var_itself}
 use Rattle.fvn_weights.specs.Values.{one_at}
 use Rattle.fvn_weights.specs.inner.Numbers.{place, found, capped, IsMore}
 use Rattle.fvn_weights.proofs.Capping.{capped_twice}
+use Rattle.fvn_weights.proofs.Firsts.{first_within, first_passes}
 
 same_truths : (c d : Bool) → beq c d ≡ same_truth c d
 same_truths true true = refl
@@ -50,14 +50,10 @@ module _ (x : Var) where
 
   -- what is placed stands there
   pub placed_within : (ps : List (Var × ℕ)) (i : ℕ) → place ps x ≡ Some i → i < length ps
-  placed_within [] i e = cc
-  placed_within (p ∷ ps) i e = go (same_var p.0 x) e (placed_within ps) where
-    go : (b : Bool) → (if b then Some 0 else option_map suc (place ps x)) ≡ Some i → ((j : ℕ) → place ps x ≡ Some j → j < length ps) → i < length (p ∷ ps)
-    go true q rest = let zero_is : 0 ≡ i = Some-injective q in omega arith
-    go false q rest = later (place ps x) refl q rest where
-      later : (o : Option ℕ) → place ps x ≡ o → option_map suc o ≡ Some i → ((j : ℕ) → place ps x ≡ Some j → j < length ps) → i < length (p ∷ ps)
-      later None is r h = cc
-      later (Some j) is r h = let next : suc j ≡ i = Some-injective r in let less = h j is in omega arith
+  placed_within ps i e = first_within (λ y. same_var y x) ps i e
+
+  pub placed_variable : (ps : List (Var × ℕ)) (i : ℕ) (d : Var × ℕ) → place ps x ≡ Some i → (get_or ps i d).0 ≡ x
+  placed_variable ps i d e = same_var_is (get_or ps i d).0 x (first_passes (λ y. same_var y x) ps i d e)
 
   -- its number is the one that is found
   pub placed_number : (ps : List (Var × ℕ)) (i : ℕ) (d : Var × ℕ) → place ps x ≡ Some i → found ps x ≡ (get_or ps i d).1
@@ -180,25 +176,3 @@ module _ (x : Var) where
     go false s =
         ap capped (pushed_other x ps m y (other_way x y s))
         ∙ ap capped (with_none (found ps y) m (one_at y x) (one_there y x s))
-
--- the next pair has the number, or what follows it
-next_found : (ps : List (Var × ℕ)) (i : ℕ) (d : Var × ℕ) (x : Var) → i < length ps →
-    found (drop i ps) x ≡ (if same_var (get_or ps i d).0 x then (get_or ps i d).1 else found (drop (suc i) ps) x)
-next_found [] i d x h = elim h [ ]
-next_found (p ∷ ps) zero d x h = refl
-next_found (p ∷ ps) (suc i) d x h = next_found ps i d x (omega arith)
-
-module _ (P : Var → Type 0) where
-  -- with one pair more behind, P holds of what has no number in the rest
-  pub rest_turn : (ps : List (Var × ℕ)) (i : ℕ) (d : Var × ℕ) → i < length ps → P (get_or ps i d).0 →
-      ((x : Var) → found (drop i ps) x ≡ 0 → P x) → (x : Var) → found (drop (i + 1) ps) x ≡ 0 → P x
-  rest_turn ps i d within here rest x z = go (same_var (get_or ps i d).0 x) refl where
-    go : (b : Bool) → same_var (get_or ps i d).0 x ≡ b → P x
-    go true s = subst P (same_var_is (get_or ps i d).0 x s) here
-    go false s =
-        let on : suc i ≡ i + 1 = omega arith in
-        rest x (next_found ps i d x within ∙ ap (λ b. if b then (get_or ps i d).1 else found (drop (suc i) ps) x) s ∙ ap (λ k. found (drop k ps) x) on ∙ z)
-
-  -- with all pairs behind, P holds of each variable
-  pub rest_done : (ps : List (Var × ℕ)) (i : ℕ) → length ps ≤ i → ((x : Var) → found (drop i ps) x ≡ 0 → P x) → (x : Var) → P x
-  rest_done ps i le h x = h x (ap (λ l. found l x) (drop_all i ps le))

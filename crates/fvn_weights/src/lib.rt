@@ -8,6 +8,7 @@ mod forms;
 mod laws;
 mod limits;
 mod numbers;
+mod slots;
 mod weighing;
 mod weights;
 

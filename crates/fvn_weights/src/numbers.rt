@@ -1,9 +1,9 @@
 //! Numbers of variables, each beside its variable; sums and products that stop at the greatest number.
-ghost use Rattle.std.specs.Prelude.{◌≡◌, ◌<◌, ◌+◌, ◌*◌, IfOk, Some, length, slice_set};
+ghost use Rattle.std.specs.Prelude.{◌≡◌, ◌<◌, ◌+◌, ◌*◌, length, slice_set, Some};
 ghost use Rattle.fvn_terms.specs.Substitution.{same_var};
-ghost use Rattle.fvn_weights.specs.inner.Numbers.{capped, found, place, IsMore};
+ghost use Rattle.fvn_weights.specs.inner.Numbers.{capped, found, place};
 
-use fvn_terms::{NoMemory, Var};
+use fvn_terms::Var;
 
 /// The sum, or the greatest number.
 pub(crate) fn plus(a: u64, b: u64) -> u64
@@ -19,15 +19,15 @@ pub(crate) fn times(a: u64, b: u64) -> u64
     a.saturating_mul(b)
 }
 
-// Whether two variables are one.
-fn is_same(a: Var, b: Var) -> bool
+/// Whether two variables are one.
+pub(crate) fn is_same(a: Var, b: Var) -> bool
     ensures { result ≡ same_var a b }
 {
     a == b
 }
 
-// Where the variable stands first.
-fn place_of(factors: &[(Var, u64)], x: Var) -> Option<usize>
+/// Where the variable stands first.
+pub(crate) fn place_of(factors: &[(Var, u64)], x: Var) -> Option<usize>
     ensures { result ≡ place factors.now x }
 {
     for i in 0..factors.len() {
@@ -39,16 +39,6 @@ fn place_of(factors: &[(Var, u64)], x: Var) -> Option<usize>
     None
 }
 
-/// The number of a variable.
-pub(crate) fn number_of(factors: &[(Var, u64)], x: Var) -> u64
-    ensures { result ≡ found factors.now x }
-{
-    match place_of(factors, x) {
-        Some(i) => factors[i].1,
-        None => 0,
-    }
-}
-
 // Writes a number into its place.
 fn put(factors: &mut Vec<(Var, u64)>, i: usize, x: Var, number: u64)
     requires { i < length factors.old.items }
@@ -57,33 +47,13 @@ fn put(factors: &mut Vec<(Var, u64)>, i: usize, x: Var, number: u64)
     factors[i] = (x, number);
 }
 
-// Raises the number of the variable that stands at a place.
-fn raise_at(factors: &mut Vec<(Var, u64)>, i: usize, x: Var, more: u64)
+/// Raises the number of the variable that stands at a place.
+pub(crate) fn raise_at(factors: &mut Vec<(Var, u64)>, i: usize, x: Var, more: u64)
     requires { place factors.old.items x ≡ Some i }
-    ensures { IsMore x more factors.old.items factors.new.items }
+    ensures { factors.new.items ≡ slice_set factors.old.items i
+        (x, capped (found factors.old.items x + more)) }
 {
     let list = factors.as_slice();
     let sum = plus(list[i].1, more);
     put(factors, i, x, sum);
-}
-
-/// The numbers with that of one variable raised.
-pub(crate) fn raised(
-    factors: Vec<(Var, u64)>,
-    x: Var,
-    more: u64,
-) -> Result<Vec<(Var, u64)>, NoMemory>
-    ensures { IfOk result (λ after. IsMore x more factors.items after.items) }
-{
-    let mut all = factors;
-    match place_of(all.as_slice(), x) {
-        Some(i) => {
-            raise_at(&mut all, i, x, more);
-            Ok(all)
-        }
-        None => {
-            all.push((x, more))?;
-            Ok(all)
-        }
-    }
 }

@@ -8,26 +8,44 @@ ghost use Rattle.fvn_weights.specs.inner.Equations.{IsOutcome, IsFaultOf, AllFal
 use crate::comparing::{Outcome, shown_by};
 use crate::fault::WeighFault;
 use crate::fitting::unfit;
-use crate::forms::form_of;
+use crate::forms::{Form, set_form};
 use crate::weights::Weights;
 use fvn_signature::Signature;
 use fvn_terms::NoMemory;
 use fvn_theory::Equation;
 use std::alloc::Global;
 
+// The forms of the sides of one equation after the other.
+struct Sides {
+    left: Form,
+    right: Form,
+}
+
+impl Drop for Sides {
+    fn drop(self) {
+        let Sides { left: _, right: _ } = self;
+    }
+}
+
 // What an equation shows.
-fn outcome_of(alloc: Global, weights: &Weights, e: &Equation) -> Result<Outcome, NoMemory>
+fn outcome_of(
+    alloc: Global,
+    sides: &mut Sides,
+    weights: &Weights,
+    e: &Equation,
+) -> Result<Outcome, NoMemory>
     ensures { IfOk result (IsOutcome (linear weights.now.list) e.now) }
 {
-    let left = form_of(alloc, weights, &e.left)?;
-    let right = form_of(alloc, weights, &e.right)?;
-    let shown = shown_by(&left, &right);
+    set_form(alloc, &mut sides.left, weights, &e.left)?;
+    set_form(alloc, &mut sides.right, weights, &e.right)?;
+    let shown = shown_by(&sides.left, &sides.right);
     Ok(shown)
 }
 
 // Whether the equation with this number falls.
 fn weigh_one(
     alloc: Global,
+    sides: &mut Sides,
     weights: &Weights,
     e: &Equation,
     number: usize,
@@ -35,7 +53,7 @@ fn weigh_one(
     ensures ok { OnOk result (IsFalling (linear weights.now.list) e.now) }
     ensures err { IfErr result (IsFaultOf (linear weights.now.list) e.now number) }
 {
-    match outcome_of(alloc, weights, e) {
+    match outcome_of(alloc, sides, weights, e) {
         Ok(shown) => match shown {
             Outcome::Falling => Ok(()),
             Outcome::Big => Err(WeighFault::TooBig(number)),
@@ -50,10 +68,14 @@ fn weigh_all(alloc: Global, weights: &Weights, equations: &[Equation]) -> Result
     ensures ok { OnOk result (AllFall (linear weights.now.list) equations.now) }
     ensures err { IfErr result (IsEquationFault (linear weights.now.list) equations.now) }
 {
+    let mut sides = Sides {
+        left: Form::new(alloc),
+        right: Form::new(alloc),
+    };
     let mut number: usize = 0;
     for e in equations {
         number += 1;
-        match weigh_one(alloc, weights, e, number) {
+        match weigh_one(alloc, &mut sides, weights, e, number) {
             Ok(()) => {}
             Err(fault) => return Err(fault),
         }

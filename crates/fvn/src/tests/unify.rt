@@ -186,6 +186,9 @@ pub fn status_of(said: &str) -> Status {
     if last.starts_with("module ") {
         return Status::ModuleRefused;
     }
+    if last.starts_with("usage: ") {
+        return Status::Usage;
+    }
     Status::Ended
 }
 

@@ -15,9 +15,7 @@ use Rattle.fvn_rewrite_laws.specs.declared.shapes.Root.TheVariants.{Variable, Co
 use Rattle.fvn_rewrite_laws.specs.declared.shapes.Shape.{Shape}
 use Rattle.fvn_rewrite_laws.specs.Identities.{identities}
 use Rattle.fvn_rewrite_laws.specs.Shapes.{sorts_of, compound}
-use Rattle.fvn_cohere.specs.declared.searching.Sought.{Sought}
 use Rattle.fvn_cohere.specs.declared.outlooks.Outlook.{Outlook}
-use Rattle.fvn_cohere.specs.inner.Searching.{choices_for}
 
 -- whether this is the root of a constant
 abbrev pub is_constant_root : Root → Bool
@@ -29,6 +27,11 @@ is_constant_root Compound = false
 abbrev pub offered : List (Var × List Shape) → Var → Option (List Shape)
 offered [] y = None
 offered (v ∷ unchosen) y = if same_var v.0 y then Some v.1 else offered unchosen y
+
+-- no variable is listed twice
+abbrev pub AreOnce : List (Var × List Shape) → Type 0
+AreOnce [] = Unit {0}
+AreOnce (v ∷ unchosen) = (offered unchosen v.0 ≡ None) × AreOnce unchosen
 
 -- the lower bounds of outlooks
 abbrev pub lows_of : List Outlook → List (Option SortId)
@@ -55,6 +58,10 @@ module _ (d : Declarations) where
   -- the lower bound, where there is one, is at or below the sort
   abbrev pub IsLow : Option SortId → SortId → Type 0
   IsLow low s = MatchOption low (Unit {0}) (λ q. AtOrBelow d q s)
+
+  -- no sort with this lower bound is at or below s
+  abbrev pub IsOutOfReach : SortId → Option SortId → Type 0
+  IsOutOfReach s low = (q : SortId) → IsLow low q → AtOrBelow d q s → ⊥
 
   -- the sort is at or above the bound, where this is known
   abbrev pub is_at_least : Option SortId → SortId → Bool
@@ -97,6 +104,7 @@ module _ (d : Declarations) where
     pub each : (y : Var) →
         MatchOption (offered unchosen y) (filled y ≡ env y) (λ shapes. Contains shapes (filled y))
 
-  -- each variable that is not chosen has the choices of its sort
-  abbrev pub Offers : Sought → List (Var × List Shape) → Type 0
-  Offers sought unchosen = (v : Var × List Shape) → Contains unchosen v → v.1 ≡ choices_for d sought v.0.sort
+  -- each variable is listed once, with shapes for which it may stand
+  pub record Offers (unchosen : List (Var × List Shape)) : Type 0 where
+    pub allowed : (v : Var × List Shape) → Contains unchosen v → (o : Shape) → Contains v.1 o → IsAllowed v.0 o
+    pub once : AreOnce unchosen

@@ -14,12 +14,12 @@ use Rattle.fvn_cohere.specs.inner.Outlooks.{Fills, Offers}
 abbrev pub is_sought : Search → (Var → Shape) → Bool
 is_sought s = is_met s.sig.now s.sought s.identities.now (term s.left.now) (term s.right.now)
 
--- the sides are terms, and each variable has the choices that belong to what is sought
+-- the sides are terms, and each variable has shapes for which it may stand
 pub record IsPosed (s : Search) : Type 0 where
   pub identities_are : s.identities.now ≡ identities s.sig.now
   pub left_term : IsTerm s.sig.now (term s.left.now)
   pub right_term : IsTerm s.sig.now (term s.right.now)
-  pub offers : Offers s.sig.now s.sought s.unchosen.now
+  pub offers : Offers s.sig.now s.unchosen.now
 
 -- what is said of each choice for all variables
 abbrev pub ForEachFilled : PartialChoice → ((Var → Shape) → Type 0) → Type 0

@@ -1,5 +1,5 @@
 -- A search through the choices for the variables of a term.
-use Rattle.std.specs.Prelude.{Bool, true, false, not, if◌then◌else◌, List, [], ◌∷◌, map}
+use Rattle.std.specs.Prelude.{Bool, true, false, not, ◌&&◌, if◌then◌else◌, List, [], ◌∷◌, map}
 use Rattle.std.specs.List.{list_any}
 use Rattle.fvn_terms.specs.declared.plain.Var.{Var}
 use Rattle.fvn_terms.specs.declared.plain.OpId.{OpId}
@@ -16,7 +16,7 @@ use Rattle.fvn_rewrite_laws.specs.Identities.{is_listed_op}
 use Rattle.fvn_rewrite_laws.specs.Choices.{variable_shape, sort_choices, identity_choices}
 use Rattle.fvn_cohere.specs.declared.shapes.Chosen.{Chosen, Nothing, Choose'}
 use Rattle.fvn_cohere.specs.declared.searching.Sought.{Sought}
-use Rattle.fvn_cohere.specs.declared.searching.Sought.TheVariants.{Loss, ToVariable, ToIdentity}
+use Rattle.fvn_cohere.specs.declared.searching.Sought.TheVariants.{Loss, LossAt, ToVariable, ToIdentity}
 
 -- the shapes that variables stand for; a variable without one stays
 abbrev pub shapes_by : Chosen → Var → Shape
@@ -52,11 +52,17 @@ module _ (d : Declarations) where
   -- what variables may stand for in a search
   abbrev pub choices_for : Sought → SortId → List Shape
   choices_for Loss = sort_choices d
+  choices_for (LossAt s) = sort_choices d
   choices_for ToVariable = identity_choices d
   choices_for ToIdentity = identity_choices d
+
+  -- whether the left side has a sort that the right side has not
+  abbrev pub is_lost_at : SortId → SortId → SortId → Bool
+  is_lost_at s left right = at_or_below d left s && not (at_or_below d right s)
 
   -- whether a choice is what is sought
   abbrev pub is_met : Sought → List OpId → Term → Term → (Var → Shape) → Bool
   is_met Loss es left right env = not (at_or_below d (shape_in d env right).sort (shape_in d env left).sort)
+  is_met (LossAt s) es left right env = is_lost_at s (shape_in d env left).sort (shape_in d env right).sort
   is_met ToVariable es left right env = is_variable_root (shape_in d env left).root
   is_met ToIdentity es left right env = is_identity_root es (shape_in d env left).root

@@ -14,7 +14,7 @@ use Rattle.fvn_combine_drawing.specs.declared.drawing.Drawn.TheVariants.{Nothing
 use Rattle.fvn_combine.specs.Tasks.{Combining, IsWanted}
 use Rattle.fvn_combine.specs.Advancing.{IsCovered}
 use Rattle.fvn_combine.specs.Leaves.{IsOpened, IsCoveredLater, IsCoveredToCome}
-use Rattle.fvn_combine.specs.Search.{IsEnd, IsRefusedAt, HasNoQuestion, IsAdmitted, IsOpenedAt, IsCoveredAt}
+use Rattle.fvn_combine.specs.Search.{IsEnd, IsRefusedAt, HasNoQuestion, HasNoChoiceAt, IsAdmitted, IsOpenedAt, IsCoveredAt}
 use Rattle.fvn_combine.specs.Work.{most_tags, most_numbers, leaf_left, left_by}
 use Rattle.fvn_combine.specs.declared.opened.Opened.{Opened}
 use Rattle.fvn_combine.specs.declared.opened.Leaf.{Leaf}
@@ -52,6 +52,7 @@ IsLessLeft before after (Given g) = after < before
 -- two open leaves are the same but for the current tags
 pub record IsSameButCurrent (before after : Opened) : Type 0 where
   pub reading : after.reading ≡ before.reading
+  pub known : after.known ≡ before.known
   pub bases : after.bases ≡ before.bases
   pub shared : after.shared ≡ before.shared
   pub tags : after.tags ≡ before.tags
@@ -128,7 +129,7 @@ module _ (k : Combining) where
     -- nothing was to come; or the search ends here; or a unifier covers what is no longer to come
     abbrev pub IsFound : Found → Type 0
     IsFound Nothing = ((u : Substitution) → IsAhead states leaf u → ⊥) × IsAheadAsBefore
-    IsFound (Ends e) = IsEnd k e × HasNoQuestion k states_after e × IsAheadAsBefore
+    IsFound (Ends e) = IsEnd k e × HasNoQuestion k states_after e × HasNoChoiceAt k leaf_after e × IsAheadAsBefore
     IsFound (Given g) = IsGivenOnKinds k.declarations k.given k.first k.size g × ((u : Substitution) → IsAhead states leaf u → IsCovered k g u ⊎ IsAhead states_after leaf_after u)
 
     -- so it is, and at want of memory all is to come as before

@@ -1,5 +1,5 @@
--- Heads of values, and those that make a value a single summand.
-use Rattle.std.specs.Prelude.{◌≡◌, ◌≢◌, ◌⊎◌, ℕ, ◌≤◌, List, slice_index_or, Option, Some, None}
+-- Heads of values, those that make a value a single summand, and marks of classes.
+use Rattle.std.specs.Prelude.{◌≡◌, ◌≢◌, ◌⊎◌, ℕ, ◌≤◌, Bool, true, false, List, length, slice_set, slice_index_or, Option, Some, None, All}
 use Rattle.fvn_terms.specs.declared.plain.OpId.{OpId}
 use Rattle.fvn_terms.specs.declared.declarations.Declarations.{Declarations}
 use Rattle.fvn_terms.specs.Signature.{axioms}
@@ -7,8 +7,7 @@ use Rattle.fvn_terms.specs.Equality.{identity}
 use Rattle.fvn_forms.specs.Flat.{FlatTerm}
 use Rattle.fvn_combine_nodes.specs.Table.{NodeTable}
 use Rattle.fvn_combine_nodes.specs.declared.state.State.{State}
-use Rattle.fvn_combine_complete.specs.Obeying.{GoWith}
-use Rattle.fvn_combine_inferring.specs.Inferred.{HaveTwoValues}
+use Rattle.fvn_combine_inferring.specs.Sorted.{GoWithSorts}
 use Rattle.fvn_combine_inferring.specs.Rows.{many}
 
 module _ (d : Declarations) (f : OpId) where
@@ -20,15 +19,33 @@ module _ (d : Declarations) (f : OpId) where
   abbrev pub IsHeadedApart : List (Option OpId) → ℕ → Type 0
   IsHeadedApart heads k = (g : OpId) × (slice_index_or heads k None ≡ Some g) × IsOtherHead g
 
-module _ (d : Declarations) (t : NodeTable) (s : State) where
+module _ (d : Declarations) (t : NodeTable) (s : State) (sorted : Bool) where
   -- whatever values go with the state, that of the class of node k has two summands
   abbrev pub HasTwoSummands : OpId → ℕ → Type 0
-  HasTwoSummands f k = (values : ℕ → FlatTerm) → GoWith d t s values → 2 ≤ many d s f values k
+  HasTwoSummands f k = (values : ℕ → FlatTerm) → GoWithSorts d t s sorted values → 2 ≤ many d s f values k
 
 -- different operators are noted of classes k and l
 abbrev pub HaveTwoHeads : List (Option OpId) → ℕ → ℕ → Type 0
 HaveTwoHeads heads k l = (f : OpId) × (g : OpId) × (slice_index_or heads k None ≡ Some f) × (slice_index_or heads l None ≡ Some g) × (f ≢ g)
 
--- node x is l, or whatever values go with the state, those of the classes of k and x differ
-abbrev pub IsOrDiffers : Declarations → NodeTable → State → (k l x : ℕ) → Type 0
-IsOrDiffers d t s k l x = (x ≡ l) ⊎ HaveTwoValues d t s k x
+-- x is l, or P holds of it
+abbrev pub IsItOr : (ℕ → Type 0) → ℕ → ℕ → Type 0
+IsItOr P l x = (x ≡ l) ⊎ P x
+
+-- places are marked of which P holds; there are n
+pub record AreMarks (n : ℕ) (P : ℕ → Type 0) (marks : List Bool) : Type 0 where
+  pub as_many : length marks ≡ n
+  pub each : (k : ℕ) → slice_index_or marks k false ≡ true → P k
+
+-- sorts are heeded, and place k is marked
+abbrev pub IsMarked : Bool → List Bool → ℕ → Type 0
+IsMarked sorted marks k = (sorted ≡ true) × (slice_index_or marks k false ≡ true)
+
+-- there are n places, and none is marked
+abbrev pub IsUnmarked : ℕ → List Bool → Type 0
+IsUnmarked n marks = (length marks ≡ n) × All (λ b. b ≡ false) marks
+
+-- the marks with place k marked, where it is to be
+abbrev pub marked : List Bool → ℕ → Bool → List Bool
+marked marks k false = marks
+marked marks k true = slice_set marks k true

@@ -7,8 +7,10 @@ use Rattle.fvn_terms.specs.Equality.{IsAssociative}
 use Rattle.fvn_combine_nodes.specs.Table.{NodeTable, IsOver}
 use Rattle.fvn_combine_nodes.specs.States.{class_of}
 use Rattle.fvn_combine_nodes.specs.declared.state.State.{State}
+use Rattle.fvn_combine_bounds.specs.Narrow.{IsNarrow, IsNeverIdentity}
 use Rattle.fvn_combine_inferring.specs.declared.expressions.Addition.{Addition}
 use Rattle.fvn_combine_inferring.specs.declared.rows.Row.{Row}
+use Rattle.fvn_combine_inferring.specs.inner.Bounds.{AreMarks}
 
 -- node n is the identity of f
 abbrev pub IsUnitNode : NodeTable → OpId → ℕ → Type 0
@@ -43,11 +45,14 @@ abbrev pub noted : List (Option (ℕ × ℕ)) → ℕ → Option (ℕ × ℕ) �
 noted splits k None = splits
 noted splits k (Some p) = slice_set splits k (Some p)
 
--- what is known of the sums by an operator at a state: the class of its identity, and splits of classes
+-- what is known of the sums by an operator at a state: the class of its identity, splits of classes, and which the sorts of
+-- their variables make narrow, or never the identity
 pub record IsAddition (d : Declarations) (t : NodeTable) (s : State) (a : Addition) : Type 0 where
   pub associative : IsAssociative (axioms d a.operator)
   pub unit : IfSome a.unit (IsUnitClass t s a.operator)
   pub splits : AreSplits t s a.operator a.splits
+  pub narrow : AreMarks (length t.nodes) (IsNarrow d t (class_of s) a.operator) a.narrow
+  pub other : AreMarks (length t.nodes) (IsNeverIdentity d t (class_of s) a.operator) a.other
 
 module _ (splits : List (Option (ℕ × ℕ))) where
   -- a class weighs what it is split into

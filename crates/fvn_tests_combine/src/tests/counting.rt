@@ -12,13 +12,13 @@ ghost use Rattle.fvn_combine_systems.specs.NodeSystems.{HoldsArguments};
 use super::unifying::push_number;
 use fvn_combine_candidates::bases;
 use fvn_combine_complete::tables_have_sums;
-use fvn_combine_inferring::{Inferred, differ, heads_of_values, infer};
+use fvn_combine_inferring::{Inferred, Known, differ, infer, known_of};
 use fvn_combine_leaves::{Reading, first_question, question_on_all, question_on_touched, read};
 use fvn_combine_nodes::{State, Table, Tree, table_of};
 use fvn_combine_systems::{tables_are_small, tables_hold_arguments};
 use fvn_flat::Pairs;
 use fvn_signature::Signature;
-use fvn_terms::{NoMemory, OpId};
+use fvn_terms::NoMemory;
 use std::alloc::Global;
 
 /// What is asked of two nodes: whether they are in one class, or nothing, since all unifiers say the same.
@@ -34,17 +34,17 @@ fn open_or_apart(
     sig: &Signature,
     table: &Table,
     state: &State,
-    heads: &[Option<OpId>],
+    known: &Known,
     i: usize,
     j: usize,
 ) -> Question
     requires closed { IsClosed sig.now table.now state.now }
     requires sums { HasSums sig.now table.now }
-    requires heads { TellHeads sig.now table.now state.now heads.now }
+    requires heads { TellHeads sig.now table.now state.now known.now.sorted known.now.heads.items }
     requires left { i < length table.now.nodes }
     requires right { j < length table.now.nodes }
 {
-    if differ(sig, table, state, heads, i, j) {
+    if differ(sig, table, state, known, i, j) {
         return Question::Apart;
     }
     Question::Open
@@ -79,18 +79,18 @@ fn asked_or_known(
     table: &Table,
     state: &State,
     reading: &Reading,
-    heads: &[Option<OpId>],
+    known: &Known,
 ) -> Option<(usize, usize, Question)>
     requires closed { IsClosed sig.now table.now state.now }
     requires sums { HasSums sig.now table.now }
     requires reading { IsReading sig.now table.now (class_of state.now) reading.now }
-    requires heads { TellHeads sig.now table.now state.now heads.now }
+    requires heads { TellHeads sig.now table.now state.now known.now.sorted known.now.heads.items }
     ensures within { IfSome result (λ p. (p.0 < length table.now.nodes) × (p.1 < length table.now.nodes)) }
     ensures open { IfSome result (λ p. IsOpen state.now p.0 p.1) }
 {
     match asked_further(alloc, sig, table, state, reading) {
         None => None,
-        Some((i, j)) => Some((i, j, open_or_apart(sig, table, state, heads, i, j))),
+        Some((i, j)) => Some((i, j, open_or_apart(sig, table, state, known, i, j))),
     }
 }
 
@@ -109,19 +109,12 @@ fn asked(
     ensures open { IfOk result (λ o. IfSome o (λ p. IsOpen state.now p.0 p.1)) }
 {
     let reading = read(alloc, sig, table, state)?;
-    let heads = heads_of_values(alloc, sig, table, state, &reading)?;
-    match infer(alloc, sig, table, state, &reading, heads.as_slice())? {
+    let known = known_of(alloc, sig, table, state, &reading, true)?;
+    match infer(alloc, sig, table, state, &reading, &known)? {
         Inferred::Impossible => Ok(None),
         Inferred::Together(i, j) => Ok(Some((i, j, Question::Together))),
         Inferred::Question(i, j) => Ok(Some((i, j, Question::Open))),
-        Inferred::Nothing => Ok(asked_or_known(
-            alloc,
-            sig,
-            table,
-            state,
-            &reading,
-            heads.as_slice(),
-        )),
+        Inferred::Nothing => Ok(asked_or_known(alloc, sig, table, state, &reading, &known)),
     }
 }
 

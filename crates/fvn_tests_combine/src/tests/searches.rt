@@ -35,6 +35,22 @@ A0 A1 l = g => 1
 A0 f h l = o h => 0
 f h A0 l = f h A1 l => 1";
 
+// Elements A below bags B; the empty bag f, the elements g to s, and the sum t of bags.
+const WITH_ELEMENTS: &str =
+    "A B; A < B; f : -> B; g : -> A; h : -> A; i : -> A; j : -> A; k : -> A; l : -> A; m : -> A; n : -> A; o : -> A; p : -> A; q : -> A; r : -> A; s : -> A; t : B B -> B [assoc comm id: f]";
+
+// The same of an element and a bag, against one, two, three and thirteen elements, and of two elements and a bag: an
+// element is one summand, so it is asked which it is, and no minimal solution is made before. Where a bag takes its
+// place nothing is inferred.
+const SEARCHED_WITH_ELEMENTS: &str = "A0 B1 t = g => 1
+A0 B1 t = g h t => 3
+A0 B1 t = g h i t t => 5
+A0 B1 t = g h i j k l m n o p q r s t t t t t t t t t t t t => 25
+A0 A1 B2 t t = g h i t t => 11
+A0 A1 t = g => 1
+A0 A1 t = B2 => 1
+B0 B1 t = g h t => 1";
+
 /// The number of states of pairs that may be given.
 fn push_searched(
     alloc: Global,
@@ -63,4 +79,15 @@ pub fn shown_searched(alloc: Global, sig: &Signature, text: &str) -> Result<Stri
 #[test]
 fn few_states_are_looked_at(rt: HostRuntime) -> Result<(), NoMemory> {
     assert_table(&rt, rt.alloc(), Asked::Searched, OPERATORS, SEARCHED)
+}
+
+#[test]
+fn elements_are_asked_before_solutions(rt: HostRuntime) -> Result<(), NoMemory> {
+    assert_table(
+        &rt,
+        rt.alloc(),
+        Asked::Searched,
+        WITH_ELEMENTS,
+        SEARCHED_WITH_ELEMENTS,
+    )
 }

@@ -36,7 +36,9 @@ PAIR sort S . op pair : S S -> S . ops fst snd : S -> S . op term : S S S -> S .
 STEP sort S . op 0 : -> S . ops s p : S -> S . op term : S S S -> S . vars X Y Z : S . eq s(p(X)) = X [variant] . eq p(s(X)) = X [variant] .
 BLIND sort S . ops sg bl ub ch : S S -> S . op term : S S S -> S . vars X Y Z : S . eq ub(sg(bl(X,Y),Z),Y) = sg(X,Z) [variant] . eq ub(bl(X,Y),Y) = X [variant] . eq ch(sg(X,Y),Y) = X [variant] .
 MEMBER sorts Elt Set Truth . subsort Elt < Set . op tt : -> Truth . op mt : -> Set . op ; : Set Set -> Set [assoc comm id: mt] . op in : Elt Set -> Truth . op term : Elt Set Set -> Truth . var X : Elt . vars Y Z : Set . eq in(X,;(X,Y)) = tt [variant] .
-LOOP sort S . op a : -> S . op f : S -> S . op term : S S S -> S . vars X Y Z : S . eq f(X) = f(X) [variant] .";
+LOOP sort S . op a : -> S . op f : S -> S . op term : S S S -> S . vars X Y Z : S . eq f(X) = f(X) [variant] .
+TWICE sort S . op a : -> S . ops d f g : S -> S . op p : S S -> S . op term : S S S -> S . vars X Y Z : S . eq d(X) = p(X,X) [variant] . eq f(g(X)) = d(d(d(d(d(d(d(d(d(d(X)))))))))) [variant] .
+SQUARE sort S . op mt : -> S . op i : S -> S . op * : S S -> S [assoc comm] . op term : S S S -> S . vars X Y Z : S . eq *(X,X,i(X)) = mt [variant] .";
 
 // Each line has the name of a module, the levels and the kept variants that are allowed, the number of unifiers at which
 // the solver stops, and a term; then how many variants are given, and the end. The numbers are counted by hand, but for
@@ -71,6 +73,12 @@ PLUS 0 99 1 +(X,Y) => 1 levels
 PLUS 9 1 1 +(X,Y) => 1 variants
 LOOP 9 99 99 a => 1 complete
 LOOP 9 99 99 f(X) => 0 steps
+TWICE 9 99 99 d(d(d(d(d(d(d(d(d(d(a)))))))))) => 0 size
+TWICE 9 99 99 f(X) => 1 size
+TWICE 0 99 99 f(X) => 1 size
+TWICE 9 99 99 p(d(X),f(X)) => 1 size
+SQUARE 9 99 4096 *(X,X,X,Y,Y,Y,Y,Y,Z,Z,Z,Z,Z,Z,Z) => 1 basis
+SQUARE 9 99 4096 *(X,i(X)) => 2 complete
 XOR 9 99 99 *(X,X) => 1 complete
 XOR 9 99 99 *(X,Y) => 7 complete
 XOR 9 99 99 *(X,c) => 4 complete

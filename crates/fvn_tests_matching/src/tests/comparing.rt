@@ -1,6 +1,6 @@
 //! Compares, prunes and marks the variants of tests.
-use super::variants::{are_all_alike, is_alike, kept_of, variant_of, variants_of};
-use fvn_cover::{OpenGate, Variant, covers, marks, prune};
+use super::variants::{are_all_alike, is_alike, variant_of, variants_of};
+use fvn_cover::{OpenGate, Variant, all_kept, covers, marks, prune};
 use fvn_signature::Signature;
 use fvn_terms::NoMemory;
 use fvn_tests_samples::push_flat;
@@ -88,7 +88,8 @@ pub fn shown_marked<R: Threads + Sync>(
         if let Some(candidates) = variants_of(alloc, sig, right)? {
             let alike = are_all_alike(kept.as_slice(), candidates.as_slice());
             if alike && 1 <= workers && workers <= 16 {
-                let kept = kept_of(alloc, sig, kept)?;
+                let kept = all_kept(alloc, sig, kept)?;
+                let candidates = all_kept(alloc, sig, candidates)?;
                 let found = marks(
                     rt,
                     alloc,

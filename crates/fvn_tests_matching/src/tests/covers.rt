@@ -2,8 +2,8 @@
 use super::comparing::shown_marked;
 use super::meeting::Meeting;
 use super::rows::{Asked, assert_table};
-use super::variants::{are_all_alike, kept_of, variants_of};
-use fvn_cover::{all_shared, covering_of_variants_is_a_preorder, marks};
+use super::variants::{are_all_alike, variants_of};
+use fvn_cover::{all_kept, all_shared, covering_of_variants_is_a_preorder, marks};
 use fvn_signature::Signature;
 use fvn_terms::NoMemory;
 use fvn_tests_samples::signature_of;
@@ -138,7 +138,8 @@ fn met<R: Threads + Sync>(rt: &R, alloc: Global, sig: &Signature) -> Result<u32,
                 all_shared(v);
             }
             if are_all_alike(kept.as_slice(), candidates.as_slice()) {
-                let kept = kept_of(alloc, sig, kept)?;
+                let kept = all_kept(alloc, sig, kept)?;
+                let candidates = all_kept(alloc, sig, candidates)?;
                 marks(
                     rt,
                     alloc,

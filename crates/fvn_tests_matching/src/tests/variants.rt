@@ -4,7 +4,7 @@ ghost use Rattle.fvn_terms.specs.Signature.{IsSort};
 ghost use Rattle.fvn_cover.specs.Covering.{AreAlike, IsFlatVariant};
 
 use fvn_base::Seq;
-use fvn_cover::{Kept, Variant};
+use fvn_cover::Variant;
 use fvn_signature::Signature;
 use fvn_terms::{NoMemory, Var};
 use fvn_tests_samples::{flats_of, is_sort, subst_of, var_of};
@@ -61,19 +61,6 @@ pub fn variants_of(
         all.push(v)?;
     }
     Ok(Some(all))
-}
-
-/// The variants, each ready to be compared.
-pub fn kept_of(alloc: Global, sig: &Signature, list: Vec<Variant>) -> Result<Vec<Kept>, NoMemory>
-    requires { All (IsFlatVariant sig.now) list.items }
-    ensures { IfOk result (λ all. all.items ≡ list.items) }
-{
-    let mut all = Vec::new(alloc);
-    for v in list {
-        let k = Kept::new(alloc, sig, v)?;
-        all.push(k)?;
-    }
-    Ok(all)
 }
 
 /// Whether the two lists have the same variables.

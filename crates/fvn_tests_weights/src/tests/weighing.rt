@@ -48,7 +48,11 @@ sort S . ops a b c : -> S . eq b = c [variant] . eq a = b [variant] . => 1, 1, 1
 sort S . op a : -> S . op f : S S -> S . vars X Y : S . eq f(X,f(Y,X)) = f(X,Y) [variant] . => 0, 1 1 1 | terminates 0
 sort S . op a : -> S . op f : S S -> S . vars X Y : S . eq f(X,f(Y,X)) = f(X,Y) [variant] . => 0, 1 1 0 | grows 1
 sort S . op a : -> S . op f : S S -> S . vars X Y : S . eq f(f(X,Y),Y) = f(Y,X) [variant] . => 0, 1 2 1 | grows 1
-sort S . op a : -> S . op f : S S -> S . vars X Y : S . eq f(f(X,Y),Y) = f(Y,X) [variant] . => 0, 2 1 1 | terminates 0";
+sort S . op a : -> S . op f : S S -> S . vars X Y : S . eq f(f(X,Y),Y) = f(Y,X) [variant] . => 0, 2 1 1 | terminates 0
+sorts A B . op f : A B -> A . op p : B B -> A . eq f(f(X:A,X:B),Y:B) = p(X:B,X:B) [variant] . => 1 1 1, 1 1 0 | grows 1
+sorts A B . op f : A B -> A . op p : B B -> A . eq f(f(f(X:A,X:B),Y:B),X:B) = p(X:B,X:B) [variant] . => 1 1 1, 1 1 0 | terminates 0
+sorts A B . op f : A B -> A . op p : B B -> A . eq f(f(f(X:A,Y:B),X:B),Y:B) = f(p(Y:B,Y:B),X:B) [variant] . => 1 1 1, 1 1 0 | terminates 0
+sorts A B . op f : A B -> A . op p : B B -> A . eq f(f(f(X:A,Y:B),X:B),Y:B) = f(p(X:B,Y:B),X:B) [variant] . => 1 1 1, 1 1 0 | grows 1";
 
 fn weight_of(alloc: Global, text: &str) -> Result<Weight, NoMemory> {
     let mut numbers = Vec::new(alloc);

@@ -10,7 +10,7 @@ use Rattle.fvn_cmd_verify.specs.Replies.{IsVerifyReply}
 use Rattle.fvn_cmd_unify.specs.Replies.{IsUnifyReply}
 use Rattle.fvn_cmd_variants.specs.Replies.{IsVariantsReply}
 use Rattle.fvn_cmd_vunify.specs.Replies.{IsVunifyReply}
-use Rattle.fvn_cmd_work.specs.Replies.{IsWorkReply}
+use Rattle.fvn_cmd_work.specs.Replies.{IsWorkAnswer}
 use Rattle.fvn_tool.specs.Words.{Command, check, unify, verify, terminates, variants, vunify, work, IsCommand, AreNoCommand, ReadsModule, text_for}
 use Rattle.fvn_tool.specs.Asked.{too_long_line, IsShort}
 use Rattle.fvn_tool.specs.Runs.{Outside}
@@ -24,7 +24,7 @@ IsCommandReply (verify problem bindings steps) bytes status text = IsVerifyReply
 IsCommandReply (terminates word) bytes status text = IsTerminatesReply bytes word status text
 IsCommandReply (variants word reach) bytes status text = IsVariantsReply bytes word reach status text
 IsCommandReply (vunify word reach) bytes status text = IsVunifyReply bytes word reach status text
-IsCommandReply (work number) bytes status text = IsWorkReply number status text
+IsCommandReply (work number) bytes status text = IsWorkAnswer number status text
 
 -- what the words as they are read, and the source, lead to
 pub data IsGivenOutcome (words : List (List ℕ)) (source : Outside) : Status → List ℕ → Type 0 where

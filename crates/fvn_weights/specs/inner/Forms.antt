@@ -8,10 +8,15 @@ use Rattle.fvn_weights.specs.declared.limits.TheConstants.{MOST}
 use Rattle.fvn_weights.specs.declared.comparing.Outcome.{Outcome}
 use Rattle.fvn_weights.specs.declared.comparing.Outcome.TheVariants.{Falling, Big, Growing}
 use Rattle.fvn_weights.specs.Values.{Linear, constant_of, factor_of, value_from, without_constants, one_at}
-use Rattle.fvn_weights.specs.inner.Numbers.{capped, found}
+use Rattle.fvn_weights.specs.inner.Numbers.{capped, found, AreStarts}
+
+-- it is noted where the variables of each slot begin
+abbrev pub IsPlaced : Form → Type 0
+IsPlaced form = AreStarts form.factors.items form.starts.items
 
 -- the form has so much more at its constant and at each variable, up to the greatest number
 pub record HasMore (constant : ℕ) (factor : Var → ℕ) (before after : Form) : Type 0 where
+  pub placed : IsPlaced after
   pub constant_is : capped after.constant ≡ capped (before.constant + constant)
   pub factors_are : (x : Var) → capped (found after.factors.items x) ≡ capped (found before.factors.items x + factor x)
 
@@ -27,6 +32,7 @@ module _ (w : Linear) (k : ℕ) where
 
 -- the form has the numbers of the term's value, up to the greatest number
 pub record IsFormOf (w : Linear) (t : Term) (form : Form) : Type 0 where
+  pub placed : IsPlaced form
   pub constant_is : capped form.constant ≡ capped (constant_of w t)
   pub factors_are : (x : Var) → capped (found form.factors.items x) ≡ capped (factor_of w x t)
 

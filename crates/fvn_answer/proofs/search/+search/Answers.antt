@@ -5,7 +5,7 @@ use Rattle.fvn_answer.specs.Lines.{forms_in}
 use Rattle.fvn_answer.specs.inner.Fronts.{IsAtMost}
 use Rattle.fvn_answer.specs.inner.Shown.{shown, IsSearched, AreSearched}
 use Rattle.fvn_answer.proofs.Least.{exchanged-length, exchanged-numbering}
-use Rattle.fvn_answer.proofs.Searching.{searched-one, searched-front, searched-later, searched-all, searched-tip, searched-twin, searched-tips}
+use Rattle.fvn_answer.proofs.Searching.{searched-one, searched-front, searched-later, searched-all, searched-tip, searched-passed, searched-led, searched-tips}
 use Rattle.fvn_answer.proofs.search.+search.Goals as goal
 use Rattle.fvn_answer.proofs.search.+search.Goals.{search_tips-then-is_tried+in_ok-next+in_ok-search, search_tips-else-is_tried}
 
@@ -13,6 +13,12 @@ pub search-returns-then-order-k : goal.search-returns-then-order-k
 search-returns-then-order-k t c =
     searched-one c.args.signature.now c.args.var_names.now.texts c.args.names.now (shown c.args.printed.now) c.args.order.now c.args.k c.args.best.now c.keep_lesser.new.best c.in_ok-line.line.items
     (omega (arith, c.if-order-k.true)) c.requires.numbering c.in_ok-line.ensures c.requires.best c.keep_lesser.ensures
+
+pub search-returns-then-leads : goal.search-returns-then-leads
+search-returns-then-leads t c =
+    let few : length c.args.order.now ≤ 6 = c.requires.few in
+    searched-led c.args.signature.now c.args.var_names.now.texts c.args.names.now (shown c.args.printed.now) c.args.printed.now refl c.requires.names c.requires.printed c.args.order.now c.args.k c.args.best.now c.search.new.best
+    (omega (arith, few)) c.requires.numbering (omega (arith, c.if-order-k.false)) (c.leads.ensures c.if-leads.true) c.in_ok-search.ensures
 
 pub search-returns-then-not-may_be_less : goal.search-returns-then-not-may_be_less
 search-returns-then-not-may_be_less t c =
@@ -75,8 +81,8 @@ search_tips-loop-j-preserved t c =
           (searched-tip d texts names it order w.in_ok-next.next.items c.args.tips.now c.args.k c.loop-j.j c.args.best.now c.loop-j.best w.search.new.best w.in_ok-next.ensures.by_index c.loop-j.invariant
           (subst (λ o. IsSearched d texts names it o (c.args.k + 1) c.loop-j.best w.search.new.best) w.as_slice.ensures.value w.in_ok-search.ensures))
       | search_tips-else-is_tried w ↦ rw w.best-is
-          (searched-twin d texts names it c.args.printed.now refl c.requires.names c.requires.printed order c.args.tips.now c.args.k c.loop-j.j c.args.best.now c.loop-j.best
-          c.requires.numbering c.loop-j-test.true (c.is_tried.ensures w.if-is_tried.false) c.loop-j.invariant)
+          (searched-passed d texts names it c.args.printed.now refl c.requires.names c.requires.printed order c.args.tips.now c.args.k c.loop-j.j c.args.best.now c.loop-j.best
+          (let few : length order ≤ 6 = c.requires.few in omega (arith, few)) c.requires.numbering c.loop-j-test.true (c.is_tried.ensures w.if-is_tried.false) c.loop-j.invariant)
     ]
 
 pub search_tips-returns : goal.search_tips-returns

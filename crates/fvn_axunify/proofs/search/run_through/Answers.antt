@@ -34,7 +34,7 @@ pub returns-in-End-clause-run : goal.returns-in-End-clause-run
 returns-in-End-clause-run c = record {
   last = c.next.combiner;
   run = c.next.invariant.run;
-  ended = ends_so c.args.task.now.sig.now c.args.task.now.problem.now c.args.task.now.vars.now c.next.combiner c.step.new.combiner c.in-End.end
+  ended = ends_so c.next.combiner c.step.new.combiner c.in-End.end
       (subst (IsNext c.next.combiner c.step.new.combiner) c.in-End.is c.in_ok-end.ensures.next);
 }
 

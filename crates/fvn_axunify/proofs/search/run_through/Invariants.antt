@@ -6,7 +6,7 @@ use Rattle.fvn_flat.specs.Solving.{problem_of}
 use Rattle.fvn_combine.specs.Advancing.{IsOf, IsToCome}
 use Rattle.fvn_combine.specs.Work.{work_left}
 use Rattle.fvn_axunify.specs.inner.Members.{AreKept, IsReached}
-use Rattle.fvn_axunify.specs.inner.Found.{IsRun}
+use Rattle.fvn_axunify.specs.Searched.{IsRun}
 use Rattle.fvn_axunify.proofs.search.run_through.Given as goal
 
 abbrev pub invariant-next : goal.invariant-next
@@ -16,7 +16,7 @@ invariant-next l = record {
   few : length l.kept.items < l.task.limits.unifiers;
   all : (u : Substitution) → IsUnifier l.task.sig.now (problem_of l.task.problem.now) u →
       IsReached l.task.sig.now l.task.problem.now l.task.vars.now l.kept.items u ⊎ IsToCome l.combiner u;
-  run : IsRun l.task.sig.now l.task.problem.now l.task.vars.now l.initial.combiner l.combiner l.kept.items;
+  run : IsRun l.task.sig.now l.task.problem.now (IsReached l.task.sig.now l.task.problem.now l.task.vars.now l.kept.items) l.initial.combiner l.combiner;
 }
 
 abbrev pub decreases-next : goal.decreases-next

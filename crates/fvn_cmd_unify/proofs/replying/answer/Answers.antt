@@ -27,4 +27,4 @@ answer_text-requires c = record {
 pub returns : goal.returns
 returns c =
     answer-told c.args.declared.now c.args.problem.now c.requires.kinded c.requires.vars c.in_ok-found.found c.in_ok-found.ensures _ c.as_slice-unifiers.ensures
-    c.answers_to_flattened_pairs.ensures c.equal_lines_are_instances.ensures _ c.signature.ensures c.recall_good.ensures.fits _ c.in_ok-lines.ensures c.end_told-end.result c.end_told-end.ensures _ c.in_ok-text.ensures _ c.status_of_end.ensures
+    c.answers_to_flattened_pairs.ensures c.flattened_pairs_have_one_answer.ensures c.equal_lines_are_instances.ensures _ c.signature.ensures c.recall_good.ensures.fits _ c.in_ok-lines.ensures c.end_told-end.result c.end_told-end.ensures _ c.in_ok-text.ensures _ c.status_of_end.ensures

@@ -8,7 +8,7 @@ use Rattle.fvn_cmd_unify.proofs.replying.solved.Goals as goal
 pub returns : goal.returns
 returns c =
     solver-answer c.args.declared.now c.args.problem.now _ c.signature-signature.ensures _ c.as_slice.ensures c.in_ok-given.given c.in_ok-given.ensures
-    _ c.new-solver.ensures.declarations _ c.new-solver.ensures.unifiers _ c.new-solver.ensures.size c.in_ok-found.found c.in_ok-found.ensures.solved c.in_ok-found.ensures.exact
+    _ c.new-solver.ensures.declarations _ c.new-solver.ensures.unifiers _ c.new-solver.ensures.size c.in_ok-found.found c.in_ok-found.ensures.solved c.in_ok-found.ensures.exact c.in_ok-found.ensures.coarser
 
 pub flattened-requires : goal.flattened-requires
 flattened-requires c =

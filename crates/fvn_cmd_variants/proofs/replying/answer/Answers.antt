@@ -5,7 +5,6 @@ use Rattle.fvn_terms.specs.Plain.{term}
 use Rattle.fvn_terms.specs.Signature.{IsTerm}
 use Rattle.fvn_forms.specs.Good.{IsGood}
 use Rattle.fvn_signature.specs.Queries.{IsCompleted}
-use Rattle.fvn_answer.specs.Answers.{FitsEnd}
 use Rattle.fvn_cmd_exploring.proofs.Ending.{told_fits}
 use Rattle.fvn_cmd_variants.specs.inner.Steps.{IsPrintable}
 use Rattle.fvn_cmd_variants.proofs.Listed.{all_printable}
@@ -32,16 +31,9 @@ lines_of-requires-clause-variants g c =
     subst (All (IsPrintable m.signature q.vars)) (sym c.as_slice-variants.ensures)
     (all_printable m q reach c.in_ok-x.x (searched_flat m q reach _ from c.in_ok-x.x c.in_ok-x.ensures).explored)
 
-pub answer_text-requires : goal.answer_text-requires
-answer_text-requires g c =
-    let m = c.args.search.now.declared.now in
-    let q = c.args.query.now in
-    let reach = c.args.search.now.reach in
-    record {
-      end =
-          subst (FitsEnd m.signature) (sym c.in_ok-end.ensures)
-          (told_fits m reach _ c.in_ok-x.x c.in_ok-loss.loss _ c.in_ok-x.x.end c.in_ok-x.ensures.explored.cause);
-    }
+pub answer_after-requires : goal.answer_after-requires
+answer_after-requires g c loss count =
+    told_fits c.args.search.now.declared.now c.args.search.now.reach _ c.in_ok-x.x loss count c.in_ok-x.x.end c.in_ok-x.ensures.explored.cause
 
 pub returns : goal.returns
 returns g c =
@@ -50,4 +42,4 @@ returns g c =
     let reach = c.args.search.now.reach in
     let from = begins m q _ c.signature-signature.ensures _ c.in_ok-start.ensures _ c.as_slice.ensures.value in
     answer-told m q reach _ from c.rewriting_is_lawful.ensures c.equal_lines_cover.ensures (subst IsGood c.signature-signature.ensures c.recall_good.ensures) (subst IsCompleted c.signature-signature.ensures c.recall_completed.ensures) c.requires.query.vars c.in_ok-x.x
-    c.in_ok-x.ensures c.in_ok-loss.loss c.in_ok-loss.ensures _ c.as_slice-variants.ensures _ c.in_ok-lines.ensures _ c.in_ok-end.ensures _ c.in_ok-text.ensures _ c.status_of_end.ensures
+    c.in_ok-x.ensures _ c.as_slice-variants.ensures _ c.in_ok-lines.ensures _ _ c.in_ok-reply.ensures

@@ -7,7 +7,6 @@ use Rattle.fvn_flat.specs.Bindings.{BindingsFit}
 use Rattle.fvn_rewrite_laws.specs.Admissible.{AreAdmissible}
 use Rattle.fvn_theory.specs.Equations.{equations_of}
 use Rattle.fvn_problems.specs.Problems.{AreOfOneKind}
-use Rattle.fvn_answer.specs.Answers.{FitsEnd}
 use Rattle.fvn_answer.specs.Asked.{HaveSorts}
 use Rattle.fvn_cmd_vunify.proofs.Ended.{solved_fits}
 use Rattle.fvn_cmd_vunify.proofs.Replied.{sides, all_fit, all_sorted, flat_from, answer-told}
@@ -39,15 +38,10 @@ lines_of-requires-clause-sorts g c =
     subst (All (HaveSorts m.signature p.vars)) (sym c.as_slice-unifiers.ensures)
     (all_sorted m p c.args.search.now.reach c.requires.problem c.in_ok-given.given.pairs (flat_from m p _ c.signature-signature.ensures _ c.as_slice.ensures c.in_ok-given.given.pairs c.in_ok-given.ensures) c.in_ok-r.r c.in_ok-r.ensures)
 
-pub answer_text-requires : goal.answer_text-requires
-answer_text-requires g c =
-    let m = c.args.search.now.declared.now in
+pub answer_after-requires : goal.answer_after-requires
+answer_after-requires g c loss count =
     let s = c.in_ok-r.ensures in
-    record {
-      end =
-          subst (FitsEnd m.signature) (sym c.in_ok-end.ensures)
-          (solved_fits m c.args.search.now.reach c.in_ok-given.given.pairs s.explored s.exploration c.in_ok-r.r s.solved c.in_ok-loss.loss _);
-    }
+    solved_fits c.args.search.now.declared.now c.args.search.now.reach c.in_ok-given.given.pairs s.explored s.exploration c.in_ok-r.r s.solved loss count
 
 pub returns : goal.returns
 returns g c =
@@ -63,6 +57,4 @@ returns g c =
     })
     c.equal_lines_are_instances.ensures (subst IsGood d_is c.recall_good.ensures) (subst IsCompleted d_is c.recall_completed.ensures)
     (subst (λ es. AreAdmissible m.signature (equations_of es)) c.requires.search.equations c.requires.search.usable.admissible)
-    c.in_ok-loss.loss c.in_ok-loss.ensures _ c.as_slice-unifiers.ensures _ c.in_ok-lines.ensures c.in_ok-end.end
-    c.in_ok-end.ensures
-    _ c.in_ok-text.ensures _ c.status_of_end.ensures
+    _ c.as_slice-unifiers.ensures _ c.in_ok-lines.ensures _ _ c.in_ok-reply.ensures

@@ -1,10 +1,10 @@
--- The problem is refused with its first fault, or its unifiers are counted.
+-- The unifiers of the problem are counted.
 use Rattle.std.proofs.Common.{sym, subst}
 use Rattle.std.specs.Prelude.{All}
 use Rattle.fvn_problems.specs.Problems.{AreOfOneKind, HasVariables}
 use Rattle.fvn_problems.specs.Scopes.{AreNamesOf}
 use Rattle.fvn_cmd_unify.proofs.Asking.{module-names}
-use Rattle.fvn_cmd_work.proofs.Replied.{problem-refused, problem-counted}
+use Rattle.fvn_cmd_work.proofs.Replied.{problem-counted}
 use Rattle.fvn_cmd_work.proofs.replying.reply_in.Goals as goal
 
 pub read_problem-requires : goal.read_problem-requires
@@ -16,11 +16,6 @@ count-requires-clause-kinded c = subst (λ d. All (AreOfOneKind d) c.in-Ok.probl
 
 pub count-requires-clause-vars : goal.count-requires-clause-vars
 count-requires-clause-vars c = subst (λ d. HasVariables d c.in-Ok.problem) c.signature.ensures c.in-Ok.ensures.vars
-
-pub returns-in_ok-reply-in-Err : goal.returns-in_ok-reply-in-Err
-returns-in_ok-reply-in-Err c =
-    problem-refused c.args.declared.now c.requires.loaded _ _ c.signature.ensures c.names.ensures c.args.n c.problem_text.result.now c.problem_text.ensures c.in-Err.fault c.in-Err.ensures.err _ _
-    c.in_ok-reply-in-Err.ensures.status c.in_ok-reply-in-Err.ensures.text
 
 pub returns-in_ok-reply-in-Ok : goal.returns-in_ok-reply-in-Ok
 returns-in_ok-reply-in-Ok c =

@@ -15,6 +15,13 @@ returns-in-Loss c =
     ∙ ap (λ (l : List OpId). map variable_shape (sorts_below d c.args.s) ++ map (identity_shape d) l) (c.as_slice-ids.ensures.value ∙ c.in_ok-below.ensures ∙ ap (filter (λ (e : OpId). at_or_below d (result d e []) c.args.s)) c.requires)
     ∙ sym (ap (λ z. choices_for d z c.args.s) c.in-Loss.is)
 
+pub returns-in-LossAt : goal.returns-in-LossAt
+returns-in-LossAt c =
+    let d = c.args.sig.now in
+    c.in_ok-all-in-LossAt.ensures
+    ∙ ap (λ (l : List OpId). map variable_shape (sorts_below d c.args.s) ++ map (identity_shape d) l) (c.as_slice-ids.ensures.value ∙ c.in_ok-below.ensures ∙ ap (filter (λ (e : OpId). at_or_below d (result d e []) c.args.s)) c.requires)
+    ∙ sym (ap (λ z. choices_for d z c.args.s) c.in-LossAt.is)
+
 pub returns-in-ToVariable : goal.returns-in-ToVariable
 returns-in-ToVariable c =
     let d = c.args.sig.now in

@@ -1,10 +1,12 @@
 -- What the searches find.
-use Rattle.std.proofs.Common.{refl, sym, ◌∙◌}
+use Rattle.std.proofs.Common.{[], refl, sym, subst, ◌∙◌}
 use Rattle.fvn_terms.specs.Plain.{term}
+use Rattle.fvn_flat.specs.Problems.{variables}
+use Rattle.fvn_flat.proofs.ListedVariables.{Distinct}
 use Rattle.fvn_cohere.specs.declared.shapes.Chosen.{Nothing}
 use Rattle.fvn_cohere.specs.declared.searching.Sought.TheVariants.{ToVariable, ToIdentity}
 use Rattle.fvn_cohere.specs.inner.Searching.{shapes_by}
-use Rattle.fvn_cohere.proofs.Hopeless.{stays_allowed, offers_of}
+use Rattle.fvn_cohere.proofs.Hopeless.{stays_allowed, offers_of, fold_distinct}
 use Rattle.fvn_cohere.proofs.Found.{variable_found, no_variable, identity_found, no_identity, searched_by}
 use Rattle.fvn_cohere.proofs.collapsing.collapses.Goals as goal
 
@@ -16,7 +18,9 @@ find-requires-clause-posed c = record {
   identities_are = c.as_slice-ids.ensures.value ∙ c.in_ok-es.ensures;
   left_term = c.requires;
   right_term = c.requires;
-  offers = offers_of c.args.sig.now ToVariable ToVariable c.as_slice-list.result.now c.as_slice-left_over.result.now (c.as_slice-left_over.ensures.value ∙ c.in_ok-all.ensures) refl;
+  offers = offers_of c.args.sig.now c.recall_good.ensures c.recall_completed.ensures ToVariable c.as_slice-list.result.now c.as_slice-left_over.result.now
+      (subst Distinct (sym (c.as_slice-list.ensures.value ∙ c.in_ok-vars.ensures)) (fold_distinct (variables (term c.args.left.now)) [] tt))
+      (c.as_slice-left_over.ensures.value ∙ c.in_ok-all.ensures);
 }
 
 pub find-requires-clause-allowed : goal.find-requires-clause-allowed
@@ -27,7 +31,9 @@ find-requires-2-clause-posed c = record {
   identities_are = c.as_slice-ids.ensures.value ∙ c.in_ok-es.ensures;
   left_term = c.requires;
   right_term = c.requires;
-  offers = offers_of c.args.sig.now ToVariable ToIdentity c.as_slice-list.result.now c.as_slice-left_over.result.now (c.as_slice-left_over.ensures.value ∙ c.in_ok-all.ensures) refl;
+  offers = offers_of c.args.sig.now c.recall_good.ensures c.recall_completed.ensures ToVariable c.as_slice-list.result.now c.as_slice-left_over.result.now
+      (subst Distinct (sym (c.as_slice-list.ensures.value ∙ c.in_ok-vars.ensures)) (fold_distinct (variables (term c.args.left.now)) [] tt))
+      (c.as_slice-left_over.ensures.value ∙ c.in_ok-all.ensures);
 }
 
 pub find-requires-2-clause-allowed : goal.find-requires-2-clause-allowed

@@ -4,6 +4,7 @@ use Rattle.std.proofs.lemmas.Result.{err_from_is_err_and}
 use Rattle.fvn_combine.specs.Advancing.{IsAdvanced}
 use Rattle.fvn_combine.specs.inner.Found.{IsFound}
 use Rattle.fvn_combine.specs.inner.Parts.{search_by}
+use Rattle.fvn_combine.proofs.Coarser.{finer_at}
 use Rattle.fvn_combine.proofs.Ends.{end_told}
 use Rattle.fvn_combine.proofs.combiner.next_of_parts.Goals as goal
 
@@ -18,7 +19,7 @@ returns-in_err-end-in-Ends-clause-advanced c =
     let k = c.args.task.now in
     let p = err_from_is_err_and c.from_residual-in_err-end-in-Ends.result c.from_residual-in_err-end-in-Ends.ensures.1 in
     let h = subst (IsFound k c.args.tree.now c.args.leaf.now c.next_unifier.new.tree c.next_unifier.new.leaf) c.in-Ends.is c.in_ok-next_unifier.ensures.found in
-    subst (IsAdvanced (search_by k c.args.tree.now c.args.leaf.now c.args.ended.now) (search_by k c.next_unifier.new.tree c.next_unifier.new.leaf c.args.ended.now)) (sym (p.1 ∙ ap Err p.2)) (refl, h.2)
+    subst (IsAdvanced (search_by k c.args.tree.now c.args.leaf.now c.args.ended.now) (search_by k c.next_unifier.new.tree c.next_unifier.new.leaf c.args.ended.now)) (sym (p.1 ∙ ap Err p.2)) (refl, h.3)
 
 pub returns-in-Nothing-clause-advanced : goal.returns-in-Nothing-clause-advanced
 returns-in-Nothing-clause-advanced c =
@@ -36,4 +37,6 @@ returns-in_ok-end-in-Ends-clause-advanced c =
     let before = search_by k c.args.tree.now c.args.leaf.now c.args.ended.now in
     let after = search_by k c.next_unifier.new.tree c.next_unifier.new.leaf (Some c.in-Ends.cause) in
     let h = subst (IsFound k c.args.tree.now c.args.leaf.now c.next_unifier.new.tree c.next_unifier.new.leaf) c.in-Ends.is c.in_ok-next_unifier.ensures.found in
-    subst (λ end. IsAdvanced before after (Err end)) (sym c.in_ok-end-in-Ends.ensures) (end_told before after c.in-Ends.cause h.0 h.1 refl h.2)
+    let finer =
+    finer_at c.node_partitions_are_partitions.ensures c.node_systems_are_sum_systems.ensures c.unifiers_partition.ensures k c.requires.search.combining c.next_unifier.new.tree c.next_unifier.ensures.closed c.next_unifier.new.leaf c.in-Ends.cause h.0 h.1 h.2 in
+    subst (λ end. IsAdvanced before after (Err end)) (sym c.in_ok-end-in-Ends.ensures) (end_told before after c.in-Ends.cause h.0 h.1 h.2 finer refl h.3)

@@ -1,11 +1,13 @@
 -- The table holds arguments, is small and has sums; what is inferred is said of each unifier.
-use Rattle.std.proofs.Common.{sym, subst, arith}
+use Rattle.std.proofs.Common.{◌≡◌, sym, subst, arith}
 use Rattle.fvn_flat.specs.Solving.{problem_of}
 use Rattle.fvn_combine_nodes.specs.States.{IsClosed}
 use Rattle.fvn_combine.specs.Tasks.{Combining}
-use Rattle.fvn_combine_inferring.specs.Inferred.{IsInferred, MustMeet}
+use Rattle.fvn_combine_inferring.specs.Inferred.{IsInferred}
+use Rattle.fvn_combine_inferring.specs.declared.inferring.Inferred.{Inferred}
 use Rattle.fvn_combine_inferring.specs.declared.inferring.Inferred.TheVariants.{Impossible, Together}
 use Rattle.fvn_combine.proofs.Inferring.{none_admitted, together_admitted}
+use Rattle.fvn_combine.proofs.looking.look_at.Goals.{In_ok-infer}
 use Rattle.fvn_combine.proofs.looking.look_at.Goals as goal
 
 pub read-requires-clause-closed : goal.read-requires-clause-closed
@@ -20,27 +22,29 @@ read-requires-clause-few c =
     let m = c.task.invariant.small in
     omega (arith, n, m)
 
-pub heads_of_values-requires-clause-sums : goal.heads_of_values-requires-clause-sums
-heads_of_values-requires-clause-sums c =
+pub known_of-requires-clause-sums : goal.known_of-requires-clause-sums
+known_of-requires-clause-sums c =
     c.tables_have_sums.ensures c.task.inside.sig.now c.task.invariant.good.fits (problem_of c.task.inside.problem.now) c.task.invariant.is_given.kinds c.task.inside.table c.task.invariant.well_made c.task.invariant.table_of
 
 pub infer-requires-clause-sums : goal.infer-requires-clause-sums
 infer-requires-clause-sums c =
     c.tables_have_sums.ensures c.task.inside.sig.now c.task.invariant.good.fits (problem_of c.task.inside.problem.now) c.task.invariant.is_given.kinds c.task.inside.table c.task.invariant.well_made c.task.invariant.table_of
 
+-- what is inferred, of the task
+inferred : (c : In_ok-infer) → (r : Inferred) → c.in_ok-infer.field-0 ≡ r → IsInferred c.args.task.now.declarations c.args.task.now.table c.args.state.now c.args.task.now.sorted r
+inferred c r is =
+    subst (λ (k : Combining). IsInferred k.declarations k.table c.args.state.now k.sorted r) c.task.view_is
+    (subst (λ b. IsInferred c.task.inside.sig.now c.task.inside.table c.args.state.now b r) c.in_ok-known.ensures.sorted
+    (subst (IsInferred c.task.inside.sig.now c.task.inside.table c.args.state.now c.in_ok-known.known.sorted) is c.in_ok-infer.ensures))
+
 pub returns-in-Impossible : goal.returns-in-Impossible
 returns-in-Impossible c =
-    let k = c.args.task.now in
-    none_admitted k c.recall.ensures c.unifiers_go_with.ensures c.args.state.now c.requires
-    (subst (λ (k : Combining). IsInferred k.declarations k.table c.args.state.now Impossible) c.task.view_is
-    (subst (IsInferred c.task.inside.sig.now c.task.inside.table c.args.state.now) c.in-Impossible.is c.in_ok-infer.ensures))
+    none_admitted c.args.task.now c.recall.ensures c.sorted_unifiers_go_with.ensures c.args.state.now c.requires (inferred (goal.at.returns-in-Impossible c).In_ok-infer Impossible c.in-Impossible.is)
 
 pub returns-in-Together : goal.returns-in-Together
 returns-in-Together c =
-    let k = c.args.task.now in
     let i = c.in-Together.i in
     let j = c.in-Together.j in
-    let must : MustMeet k.declarations k.table c.args.state.now i j =
-    subst (λ (k : Combining). IsInferred k.declarations k.table c.args.state.now (Together i j)) c.task.view_is
-    (subst (IsInferred c.task.inside.sig.now c.task.inside.table c.args.state.now) c.in-Together.is c.in_ok-infer.ensures) in
-    (must.open_pair.left, must.open_pair.right, must.open_pair.undecided, together_admitted k c.recall.ensures c.unifiers_go_with.ensures c.args.state.now c.requires i j must.open_pair.left must.open_pair.right must.equal)
+    let must = inferred (goal.at.returns-in-Together c).In_ok-infer (Together i j) c.in-Together.is in
+    let open_pair = must.open_pair in
+    (open_pair.left, open_pair.right, open_pair.undecided, together_admitted c.args.task.now c.recall.ensures c.sorted_unifiers_go_with.ensures c.args.state.now c.requires i j open_pair.left open_pair.right must.equal)

@@ -8,6 +8,6 @@ open-requires-clause-ready c = is_ready c.args.task.now c.recall.ensures c.args.
 pub returns : goal.returns
 returns c = (
   c.in_ok-leaf.ensures.opened,
-  covers_admitted c.args.task.now c.recall.ensures c.args.state.now c.sorted_leaves_cover.ensures c.readings_tell.ensures c.bases_make_systems.ensures c.in_ok-leaf.leaf c.in_ok-leaf.ensures.opened c.in_ok-leaf.ensures.all,
+  covers_admitted c.args.task.now c.recall.ensures c.args.state.now c.sorted_unifiers_go_with.ensures c.sorted_leaves_cover.ensures c.readings_tell.ensures c.bases_make_systems.ensures c.in_ok-leaf.leaf c.in_ok-leaf.ensures.opened c.in_ok-leaf.ensures.all,
   c.in_ok-leaf.ensures.few,
 )

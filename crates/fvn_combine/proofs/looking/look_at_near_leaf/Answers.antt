@@ -33,10 +33,10 @@ look_at_leaf-requires-clause-kinds c = c.are_of_one_kind.ensures.0 c.if-not-are_
 pub asked-requires : goal.asked-requires
 asked-requires c =
     let q = subst (λ (k : Combining). IsQuestion k.declarations k.table c.args.state.now (Some c.in-Some.pair)) c.task.view_is c.in-Some.ensures in
-    record { closed = c.requires.near.closed; heads = c.requires.heads; left = q.0; right = q.1; «open» = q.2 }
+    record { closed = c.requires.near.closed; heads = c.requires.heads; sorted = c.requires.sorted; left = q.0; right = q.1; «open» = q.2 }
 
 pub asked-requires-in-Some-question_on_touched : goal.asked-requires-in-Some-question_on_touched
 asked-requires-in-Some-question_on_touched c =
     let pair = c.in-Some-question_on_touched.pair in
     let q = subst (λ (k : Combining). IsQuestion k.declarations k.table c.args.state.now (Some pair)) c.task.view_is c.in-Some-question_on_touched.ensures in
-    record { closed = c.requires.near.closed; heads = c.requires.heads; left = q.0; right = q.1; «open» = q.2 }
+    record { closed = c.requires.near.closed; heads = c.requires.heads; sorted = c.requires.sorted; left = q.0; right = q.1; «open» = q.2 }

@@ -24,7 +24,7 @@ returns-clause-all c =
     let classes = c.in_ok-classes.classes.items in
     let exact = subst (λ (k : Combining). AreSharedClasses k.declarations k.table (class_of c.args.state.now) k.sorted classes) c.task.view_is c.in_ok-classes.ensures.exact in
     let counts = c.in_ok-tags.ensures.counts ∙ c.in_ok-counts.ensures ∙ ap tag_counts (c.as_slice.ensures.value ∙ sym c.from_vec-2.ensures) in
-    all_to_come c.args.task.now c.recall.ensures c.args.state.now c.args.reading c.from_vec.result c.from_vec-2.result c.in_ok-tags.tags c.requires.ready c.requires.reading
+    all_to_come c.args.task.now c.recall.ensures c.args.state.now c.args.reading c.args.known c.from_vec.result c.from_vec-2.result c.in_ok-tags.tags c.requires.ready c.requires.reading
     (subst (AreSharedClasses c.args.task.now.declarations c.args.task.now.table (class_of c.args.state.now) c.args.task.now.sorted) (sym c.from_vec-2.ensures) exact)
     c.covering_choices_are_listed.ensures counts c.in_ok-tags.ensures.all_pending
 

@@ -2,12 +2,13 @@
 use Rattle.std.proofs.Common.{◌<◌, ◌≤◌, sym, subst}
 use Rattle.std.proofs.Math.Nat.{le_trans, lt_of_lt_of_le}
 use Rattle.std.proofs.lemmas.Result.{err_from_is_err_and}
-use Rattle.fvn_combine.specs.Search.{HasNoQuestion, IsCoveredAt, IsOpenedAt}
+use Rattle.fvn_combine.specs.Search.{HasNoQuestion, HasNoChoiceAt, IsCoveredAt, IsOpenedAt}
 use Rattle.fvn_combine.specs.Advancing.{IsCovered}
 use Rattle.fvn_combine.specs.inner.Found.{IsDrawnFrom, IsStep, IsAheadAsBefore, AreFound, LeavesLess}
 use Rattle.fvn_combine.specs.Work.{left_at}
 use Rattle.fvn_combine.proofs.Less.{leaf_falls, leaf_stays}
 use Rattle.fvn_combine.proofs.Ahead.{leaf_kept, leaf_gives, nothing_ahead, ahead_after}
+use Rattle.fvn_combine.proofs.Ends.{no_choice}
 use Rattle.fvn_combine.proofs.stepping.next_unifier.Goals as goal
 
 pub returns-in_err-next_in-clause-found : goal.returns-in_err-next_in-clause-found
@@ -19,7 +20,7 @@ pub returns-in-TooLarge-clause-found : goal.returns-in-TooLarge-clause-found
 returns-in-TooLarge-clause-found c =
     let k = c.args.task.now in
     let h = subst (IsDrawnFrom k (IsCoveredAt k c.steps.leaf) (IsCoveredAt k c.next_in.new.leaf)) c.in-TooLarge.is c.in_ok-next_in.ensures.drawn in
-    (h.0, tt, leaf_kept k c.args.tree.now c.args.leaf.now c.steps.tree c.steps.leaf c.steps.invariant.same c.next_in.new.leaf h.1 c.next_in.ensures.fewer)
+    (h.0, tt, tt, leaf_kept k c.args.tree.now c.args.leaf.now c.steps.tree c.steps.leaf c.steps.invariant.same c.next_in.new.leaf h.1 c.next_in.ensures.fewer)
 
 pub returns-in-Unifier-clause-found : goal.returns-in-Unifier-clause-found
 returns-in-Unifier-clause-found c =
@@ -63,6 +64,7 @@ steps-preserved c =
     let s = subst (IsStep k c.steps.tree c.next_in.new.leaf c.take_step.new.tree c.take_step.new.leaf) c.in-More.is c.in_ok-take_step.ensures.stepped in
     record {
       closed = c.take_step.ensures.closed;
+      ordered = c.take_step.ensures.ordered;
       opened = s.1;
       same = ahead_after k c.args.tree.now c.args.leaf.now c.steps.tree c.steps.leaf c.steps.invariant.same none c.next_in.new.leaf c.next_in.ensures.fewer c.take_step.new.tree c.take_step.new.leaf s;
       less =
@@ -82,6 +84,7 @@ returns-in-End-clause-found c =
     let s = subst (IsStep k c.steps.tree c.next_in.new.leaf c.take_step.new.tree c.take_step.new.leaf) c.in-End.is c.in_ok-take_step.ensures.stepped in (
       s.0,
       subst (λ l. HasNoQuestion k l c.in-End.ended) (sym s.2) s.1,
+      subst (λ l. HasNoChoiceAt k l c.in-End.ended) (sym s.3) (no_choice k c.next_in.new.leaf c.in-End.ended (λ u m. none u (c.next_in.ensures.fewer u m))),
       subst (λ l. IsAheadAsBefore k c.args.tree.now c.args.leaf.now l c.take_step.new.leaf) (sym s.2)
           (subst (IsAheadAsBefore k c.args.tree.now c.args.leaf.now c.steps.tree) (sym s.3)
           (leaf_kept k c.args.tree.now c.args.leaf.now c.steps.tree c.steps.leaf c.steps.invariant.same c.next_in.new.leaf (λ u h. absurd (none u h)) c.next_in.ensures.fewer)),

@@ -1,6 +1,7 @@
 -- What is to come when the last state is asked, passed over or opened.
 use Rattle.std.proofs.Common.{◌≡◌, ◌≢◌, ℕ, refl, subst, zero-le, Some, None}
 use Rattle.fvn_combine.proofs.Less.{left_falls}
+use Rattle.fvn_combine.proofs.Ends.{coarser_first}
 use Rattle.fvn_combine.proofs.Trees.{after_asking, after_taking_on, closed_before, taken_out, taken_falls, after_passing, leaf_opened, after_opening}
 use Rattle.fvn_combine_nodes.specs.Trees.{IsAsked, IsTakenOn}
 use Rattle.fvn_combine.specs.Tasks.{Combining}
@@ -66,4 +67,11 @@ returns-in-Some-clause-stepped c =
 pub returns-in-Refused-clause-stepped : goal.returns-in-Refused-clause-stepped
 returns-in-Refused-clause-stepped c =
     let l = subst (IsLooked c.args.task.now c.args.tree.now) c.in-Refused.is c.in_ok-look.ensures in
-    (l.looked.0, record { below = l.below; last = l.last; is = l.is; refused = l.looked.1 }, refl, refl)
+    let first = coarser_first c.args.task.now c.args.tree.now l.below l.last l.is c.requires.closed c.requires.ordered in
+    (l.looked.0, record { below = l.below; last = l.last; is = l.is; refused = l.looked.1; coarser_first = first }, refl, refl)
+
+pub returns-in-Passed-clause-ordered : goal.returns-in-Passed-clause-ordered
+returns-in-Passed-clause-ordered c = c.take_top-last.ensures.ordered c.requires.ordered
+
+pub returns-in-Some-clause-ordered : goal.returns-in-Some-clause-ordered
+returns-in-Some-clause-ordered c = c.take_top.ensures.ordered c.requires.ordered

@@ -7,5 +7,6 @@ returns-in-Ok-clause-exact c = record {
   exact = c.in-Ok.ensures.exact;
   ordered = c.in-Ok.ensures.ordered;
   few = c.in-Ok.ensures.few;
+  narrow = c.in-Ok.ensures.narrow;
   kept = kept_system c.args.sums.now.system c.basis.result c.in-Ok.solutions c.in-Ok.is c.basis.ensures.too_many c.basis.ensures.too_wide;
 }

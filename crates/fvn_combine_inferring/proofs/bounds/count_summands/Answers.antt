@@ -19,7 +19,7 @@ loop-k-preserved c =
     record {
       few = omega (arith, n);
       least = λ values go.
-          count_more c.args.sig.now c.args.table.now c.args.state.now c.args.f values xs i c.loop-k.count (get_or xs i 0) c.loop-k-test.true refl (c.has_summand.ensures c.if-not-has_summand.false values go) (c.loop-k.invariant.least values go);
+          count_more c.args.sig.now c.args.table.now c.args.state.now c.args.known.now.sorted c.args.addition.now.operator values xs i c.loop-k.count (get_or xs i 0) c.loop-k-test.true refl (c.has_summand.ensures c.if-not-has_summand.false values go) (c.loop-k.invariant.least values go);
     }
 
 pub loop-k-preserved-then-not-has_summand : goal.loop-k-preserved-then-not-has_summand
@@ -27,9 +27,9 @@ loop-k-preserved-then-not-has_summand c =
     let n = c.loop-k.invariant.few in
     record {
       few = omega (arith, n);
-      least = λ values go. count_same c.args.sig.now c.args.table.now c.args.state.now c.args.f values c.args.list.now c.loop-k.k-index c.loop-k.count c.loop-k-test.true (c.loop-k.invariant.least values go);
+      least = λ values go. count_same c.args.sig.now c.args.table.now c.args.state.now c.args.known.now.sorted c.args.addition.now.operator values c.args.list.now c.loop-k.k-index c.loop-k.count c.loop-k-test.true (c.loop-k.invariant.least values go);
     }
 
 pub returns : goal.returns
 returns c values go =
-    subst (λ l. c.loop-k.count ≤ sum_by (many c.args.sig.now c.args.state.now c.args.f values) l) (take_all c.loop-k.k-index c.args.list.now c.loop-k-test.false) (c.loop-k.invariant.least values go)
+    subst (λ l. c.loop-k.count ≤ sum_by (many c.args.sig.now c.args.state.now c.args.addition.now.operator values) l) (take_all c.loop-k.k-index c.args.list.now c.loop-k-test.false) (c.loop-k.invariant.least values go)

@@ -12,4 +12,4 @@ are_apart-requires c =
 
 pub returns-in-Some : goal.returns-in-Some
 returns-in-Some c t values go =
-    apart_summand c.args.sig.now c.args.table.now c.requires.sums c.args.state.now c.requires.closed values go c.args.f c.in-Some.n c.args.k c.in-Some.ensures.unit c.in-Some.ensures.within c.requires.within (c.are_apart.ensures t)
+    apart_summand c.args.sig.now c.args.table.now c.requires.sums c.args.state.now c.requires.closed values go.go c.args.f c.in-Some.n c.args.k c.in-Some.ensures.unit c.in-Some.ensures.within c.requires.within (c.are_apart.ensures t)

@@ -4,4 +4,4 @@ use Rattle.fvn_combine_inferring.specs.Inferred.{HaveTwoValues}
 use Rattle.fvn_combine_inferring.proofs.differing.candidate.Given as goal
 
 abbrev pub invariant-loop-l : goal.invariant-loop-l
-invariant-loop-l l = All (HaveTwoValues l.sig l.table l.state l.k) (take l.l-index l.list)
+invariant-loop-l l = All (HaveTwoValues l.sig l.table l.state l.known.sorted l.k) (take l.l-index l.list)

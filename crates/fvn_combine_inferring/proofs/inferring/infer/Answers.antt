@@ -13,7 +13,7 @@ infer_of-requires-clause-associative c =
 
 pub loop-sums-preserved : goal.loop-sums-preserved
 loop-sums-preserved c =
-    let told = IsInferred c.args.sig.now c.args.table.now c.args.state.now in
+    let told = IsInferred c.args.sig.now c.args.table.now c.args.state.now c.args.known.now.sorted in
     elim c.or_told-asked.ensures [
       | inl e ↦ subst told (sym e) c.loop-sums.invariant
       | inr e ↦ subst told (sym e) c.in_ok-told.ensures

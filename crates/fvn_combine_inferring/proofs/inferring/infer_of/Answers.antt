@@ -11,7 +11,7 @@ infer_at-requires-clause-within c = subst (λ ns. c.loop-i.i < length ns) c.node
 
 pub loop-i-preserved : goal.loop-i-preserved
 loop-i-preserved c =
-    let told = IsInferred c.args.sig.now c.args.table.now c.args.state.now in
+    let told = IsInferred c.args.sig.now c.args.table.now c.args.state.now c.args.known.now.sorted in
     elim c.or_told-asked.ensures [
       | inl e ↦ subst told (sym e) c.loop-i.invariant
       | inr e ↦ subst told (sym e) c.in_ok-told.ensures

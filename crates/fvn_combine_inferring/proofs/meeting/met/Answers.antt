@@ -24,5 +24,5 @@ returns-then-is_open c = record {
 }
 
 pub returns : goal.returns
-returns c = met_apart c.args.sig.now c.args.table.now c.args.state.now c.args.i c.args.j c.requires.left c.requires.right c.requires.equal
+returns c = met_apart c.args.sig.now c.args.table.now c.args.state.now c.args.sorted c.args.i c.args.j c.requires.left c.requires.right c.requires.equal
     (kept_apart c.args.state.now c.args.i c.args.j (sym c.is_same.ensures ∙ c.if-is_same.false) (sym c.is_open.ensures ∙ c.if-is_open.false))

@@ -12,5 +12,5 @@ met-requires c =
       closed = c.requires.closed;
       left = only_within (length t.nodes) k c.args.left.now c.in-Some.ensures.some c.in-Some.ensures.all c.requires.left;
       right = only_within (length t.nodes) l c.args.right.now c.in-Some-the_one.ensures.some c.in-Some-the_one.ensures.all c.requires.right;
-      equal = cancelled_met c.args.sig.now t c.args.state.now c.args.f k l c.args.left.now c.args.right.now c.in-Some.ensures.some (c.are_as_many.ensures.0 c.if-not-are_as_many.false) c.in-Some.ensures.all c.in-Some-the_one.ensures.all c.requires.sides;
+      equal = cancelled_met c.args.sig.now t c.args.state.now c.args.sorted c.args.f k l c.args.left.now c.args.right.now c.in-Some.ensures.some (c.are_as_many.ensures.0 c.if-not-are_as_many.false) c.in-Some.ensures.all c.in-Some-the_one.ensures.all c.requires.sides;
     }

@@ -12,4 +12,4 @@ emptied-requires-clause-sides c =
 pub emptied-requires-then-has_none-2-clause-sides : goal.emptied-requires-then-has_none-2-clause-sides
 emptied-requires-then-has_none-2-clause-sides c =
     subst (AreSides c.args.sig.now c.args.table.now c.args.state.now c.args.f c.args.right.now) (nil_from_length c.args.left.now (c.has_none-2.ensures.0 c.if-has_none-2.true))
-    (other_side c.args.sig.now c.args.table.now c.args.state.now c.args.f c.args.left.now c.args.right.now c.requires.sides)
+    (other_side c.args.sig.now c.args.table.now c.args.state.now c.args.sorted c.args.f c.args.left.now c.args.right.now c.requires.sides)

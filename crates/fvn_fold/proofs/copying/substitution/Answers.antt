@@ -1,9 +1,11 @@
--- one more pair, whose variable has none yet
-use Rattle.fvn_fold.proofs.Pairs.{not_bound_yet, copied_more}
+-- after nothing comes all of it
+use Rattle.std.proofs.Common.{◌∙◌}
+use Rattle.fvn_flat.proofs.Composing.{empty_fits}
+use Rattle.fvn_fold.proofs.Copies.{all_chosen}
 use Rattle.fvn_fold.proofs.copying.substitution.Goals as goal
 
-pub bind-requires : goal.bind-requires
-bind-requires c = rw c.loop-i.invariant (not_bound_yet c.args.s.now c.loop-i.i _ _ c.recall_bindings.ensures c.pair.ensures)
+pub compose-requires-clause-first : goal.compose-requires-clause-first
+compose-requires-clause-first c = rw c.empty-nothing.ensures (empty_fits c.args.sig.now)
 
-pub loop-i-preserved : goal.loop-i-preserved
-loop-i-preserved c = copied_more c.loop-i.all c.args.s.now c.loop-i.i c.pair.result.0 (c.pair.result.1).now _ c.in_ok-all.ensures c.loop-i.invariant c.pair.ensures
+pub returns : goal.returns
+returns c = (rw c.empty-nothing.ensures at c.in_ok-all.ensures.exact) ∙ all_chosen c.args.s.now

@@ -5,6 +5,16 @@ use Rattle.fvn_cover.specs.Pruning.{IsPruned}
 use Rattle.fvn_fold.proofs.Rounds.{kept_cut, cut_at}
 use Rattle.fvn_fold.proofs.exploring.full.Goals as goal
 
+pub with_level-requires : goal.with_level-requires
+with_level-requires c =
+    let next = c.args.next.items in
+    let room = c.args.limits.variants - c.len.result in
+    let length_kept : c.len.result ≡ length c.args.run.kept.items = c.len.ensures ∙ c.args.run.kept.ok.0 in
+    let many = c.requires.many in
+    let few = c.requires.few in
+    let cut = cut_at next c.remove.new.self.items c.truncate.new.self.items room c.into_variant-v.result (omega (arith, length_kept, many, few)) (c.into_variant-v.ensures ∙ c.remove.ensures.value ∙ ap (λ v. get_or next room v) (sym c.into_variant-v.ensures)) c.remove.ensures.items c.truncate.ensures.items in
+    kept_cut c.args.sig.now c.args.run.kept.items next room c.into_variant-v.result c.truncate.new.self.items cut c.requires.kept
+
 pub finish-requires : goal.finish-requires
 finish-requires c =
     let next = c.args.next.items in

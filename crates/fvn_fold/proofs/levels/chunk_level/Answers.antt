@@ -13,7 +13,7 @@ marks-requires-clause-comparable g c κs within =
     let drawn = g.E.Expander.drawn c.args.task.now.expander.now in
     let found = gathered_from s drawn c.args.members.now c.in_ok-expansions.expansions.items c.in_ok-expansions.ensures.expanded c.in_ok-found.found.candidates.items c.in_ok-found.found.end c.in_ok-found.ensures in
     let facts = chunk_facts s drawn c.args.kept.now c.requires.ready c.args.members.now c.requires.members c.args.before.items c.requires.before c.in_ok-found.found.candidates.items c.in_ok-found.found.end found c.args.task.now.sig.now c.requires.task.setting.declarations in
-    rw c.as_slice.ensures.value facts.compared
+    rw (c.as_slice.ensures.value, c.in_ok-children.ensures) facts.compared
 
 pub taken-requires-clause-comparable : goal.taken-requires-clause-comparable
 taken-requires-clause-comparable g c =
@@ -21,7 +21,7 @@ taken-requires-clause-comparable g c =
     let drawn = g.E.Expander.drawn c.args.task.now.expander.now in
     let found = gathered_from s drawn c.args.members.now c.in_ok-expansions.expansions.items c.in_ok-expansions.ensures.expanded c.in_ok-found.found.candidates.items c.in_ok-found.found.end c.in_ok-found.ensures in
     let facts = chunk_facts s drawn c.args.kept.now c.requires.ready c.args.members.now c.requires.members c.args.before.items c.requires.before c.in_ok-found.found.candidates.items c.in_ok-found.found.end found c.args.task.now.sig.now c.requires.task.setting.declarations in
-    facts.compared
+    rw c.in_ok-children.ensures facts.compared
 
 pub taken-requires-clause-marks : goal.taken-requires-clause-marks
 taken-requires-clause-marks g c = rw c.as_slice-2.ensures.value (rw c.as_slice.ensures.value at c.in_ok-covered.ensures.marks)
@@ -48,7 +48,7 @@ taken-requires-clause-alike g c =
     let drawn = g.E.Expander.drawn c.args.task.now.expander.now in
     let found = gathered_from s drawn c.args.members.now c.in_ok-expansions.expansions.items c.in_ok-expansions.ensures.expanded c.in_ok-found.found.candidates.items c.in_ok-found.found.end c.in_ok-found.ensures in
     let facts = chunk_facts s drawn c.args.kept.now c.requires.ready c.args.members.now c.requires.members c.args.before.items c.requires.before c.in_ok-found.found.candidates.items c.in_ok-found.found.end found c.args.task.now.sig.now c.requires.task.setting.declarations in
-    facts.alike
+    rw c.in_ok-children.ensures facts.alike
 
 pub taken-requires-clause-candidates : goal.taken-requires-clause-candidates
 taken-requires-clause-candidates g c =
@@ -56,7 +56,7 @@ taken-requires-clause-candidates g c =
     let drawn = g.E.Expander.drawn c.args.task.now.expander.now in
     let found = gathered_from s drawn c.args.members.now c.in_ok-expansions.expansions.items c.in_ok-expansions.ensures.expanded c.in_ok-found.found.candidates.items c.in_ok-found.found.end c.in_ok-found.ensures in
     let facts = chunk_facts s drawn c.args.kept.now c.requires.ready c.args.members.now c.requires.members c.args.before.items c.requires.before c.in_ok-found.found.candidates.items c.in_ok-found.found.end found c.args.task.now.sig.now c.requires.task.setting.declarations in
-    facts.each
+    rw c.in_ok-children.ensures facts.each
 
 pub returns : goal.returns
 returns g c =
@@ -64,4 +64,12 @@ returns g c =
     let drawn = g.E.Expander.drawn c.args.task.now.expander.now in
     let found = gathered_from s drawn c.args.members.now c.in_ok-expansions.expansions.items c.in_ok-expansions.ensures.expanded c.in_ok-found.found.candidates.items c.in_ok-found.found.end c.in_ok-found.ensures in
     let facts = chunk_facts s drawn c.args.kept.now c.requires.ready c.args.members.now c.requires.members c.args.before.items c.requires.before c.in_ok-found.found.candidates.items c.in_ok-found.found.end found c.args.task.now.sig.now c.requires.task.setting.declarations in
-    facts.more c.in_ok-next.next.items c.in_ok-next.ensures
+    facts.more c.in_ok-next.next.items (rw c.in_ok-children.ensures at c.in_ok-next.ensures)
+
+pub all_kept-requires : goal.all_kept-requires
+all_kept-requires g c =
+    let s = g.E.Expander.setting c.args.task.now.expander.now in
+    let drawn = g.E.Expander.drawn c.args.task.now.expander.now in
+    let found = gathered_from s drawn c.args.members.now c.in_ok-expansions.expansions.items c.in_ok-expansions.ensures.expanded c.in_ok-found.found.candidates.items c.in_ok-found.found.end c.in_ok-found.ensures in
+    let facts = chunk_facts s drawn c.args.kept.now c.requires.ready c.args.members.now c.requires.members c.args.before.items c.requires.before c.in_ok-found.found.candidates.items c.in_ok-found.found.end found c.args.task.now.sig.now c.requires.task.setting.declarations in
+    facts.compared.candidates_flat

@@ -1,8 +1,5 @@
 -- The constant, or the number of a variable.
-use Rattle.std.proofs.Common.{◌<◌, ◌≡◌, List, ℕ, inl, inr, refl, sym, subst, true}
-use Rattle.fvn_terms.specs.declared.plain.Var.{Var}
-use Rattle.fvn_weights.specs.declared.limits.TheConstants.{MOST}
-use Rattle.fvn_weights.specs.inner.Numbers.{found}
+use Rattle.std.proofs.Common.{◌≡◌, inl, inr, refl, true}
 use Rattle.fvn_weights.proofs.FitTests.{contradicts}
 use Rattle.fvn_weights.proofs.comparing.is_over_form.Goals as goal
 
@@ -11,9 +8,9 @@ returns-then-over c = (λ t. inl (c.is_over-over.ensures.0 c.if-over.true), λ h
 
 pub returns : goal.returns
 returns c = (
-  λ t. inr (subst (λ (l : List (Var × ℕ)). (x : Var) × (MOST < found l x)) c.as_slice-factors.ensures.value (c.has_over-some.ensures.0 t)),
+  λ t. inr (c.has_over-some.ensures.0 t),
   λ h. elim h as (λ _. c.has_over-some.result ≡ true) [
     | inl over ↦ absurd (contradicts c.is_over-over.result (c.is_over-over.ensures.1 over) c.if-over.false)
-    | inr some ↦ c.has_over-some.ensures.1 (subst (λ (l : List (Var × ℕ)). (x : Var) × (MOST < found l x)) (sym c.as_slice-factors.ensures.value) some)
+    | inr some ↦ c.has_over-some.ensures.1 some
   ],
 )

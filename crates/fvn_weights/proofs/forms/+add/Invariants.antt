@@ -16,5 +16,5 @@ decreases-add_all l = 2 * nodes_all l.us.now + 1
 abbrev pub invariant-add_all-loop-t : goal.invariant-add_all-loop-t
 invariant-add_all-loop-t l = record {
   count : l.i ≡ l.t-index;
-  added : AreAdded (linear l.weights.list) l.factor l.f (terms (take l.t-index l.t-items)) l.fn.begun l.form;
+  added : AreAdded (linear l.weights.list) l.factor l.fn.f (terms (take l.t-index l.t-items)) l.initial.form l.form;
 }

@@ -1,8 +1,8 @@
 -- The number at the variable's place is raised.
-use Rattle.std.proofs.Common.{◌+◌, List, ℕ, sym, subst, ap, ◌∙◌, arith}
+use Rattle.std.proofs.Common.{◌+◌, List, ℕ, set, sym, ap, ◌∙◌, arith}
 use Rattle.fvn_terms.specs.declared.plain.Var.{Var}
-use Rattle.fvn_weights.specs.inner.Numbers.{found, place, capped, IsMore}
-use Rattle.fvn_weights.proofs.Placing.{placed_within, placed_number, raised_at}
+use Rattle.fvn_weights.specs.inner.Numbers.{found, place, capped}
+use Rattle.fvn_weights.proofs.Placing.{placed_within, placed_number}
 use Rattle.fvn_weights.proofs.numbers.raise_at.Goals as goal
 
 pub bounds-list-i : goal.bounds-list-i
@@ -21,4 +21,4 @@ returns c =
     let at = ap (λ (l : List (Var × ℕ)). place l c.args.x) c.as_slice-list.ensures.value ∙ c.requires in
     let number = placed_number c.args.x c.as_slice-list.result.now c.args.i _ at in
     let sum = c.plus-sum.ensures ∙ ap (λ n. capped (n + c.args.more)) (sym number ∙ ap (λ (l : List (Var × ℕ)). found l c.args.x) c.as_slice-list.ensures.value) in
-    subst (λ (l : List (Var × ℕ)). IsMore c.args.x c.args.more ps l) (sym c.put.ensures) (raised_at c.args.x ps c.args.i c.args.more c.plus-sum.result c.requires sum)
+    c.put.ensures ∙ ap (λ n. set ps c.args.i (c.args.x, n)) sum

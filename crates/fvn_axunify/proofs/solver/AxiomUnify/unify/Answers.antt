@@ -2,6 +2,7 @@
 use Rattle.std.proofs.Common.{sym, subst}
 use Rattle.fvn_flat.specs.Solving.{IsGiven}
 use Rattle.fvn_axunify.specs.Solvers.{Solver}
+use Rattle.fvn_axunify.specs.Coarser.{HoldsCoarserOnes}
 use Rattle.fvn_axunify.specs.inner.Asked.{AreVariablesOf}
 use Rattle.fvn_axunify.proofs.solver.AxiomUnify.unify.Goals as goal
 
@@ -18,3 +19,6 @@ told-requires-clause-asked c = record {
   is_given = subst (λ (s : Solver). IsGiven s.declarations c.args.problem.now c.args.first_fresh) (sym c.self.view_is) c.requires;
   variables = subst (AreVariablesOf c.args.problem.now) (sym c.as_slice.ensures.value) c.in_ok-vars.ensures;
 }
+
+pub returns-clause-coarser : goal.returns-clause-coarser
+returns-clause-coarser c = subst (λ (s : Solver). HoldsCoarserOnes s.declarations c.args.problem.now c.in_ok-solved.solved) c.self.view_is c.in_ok-solved.ensures.coarser

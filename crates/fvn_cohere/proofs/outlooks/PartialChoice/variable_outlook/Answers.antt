@@ -8,4 +8,4 @@ returns-in-None c = λ filled h. chosen_suits c.args.self.now.sig.now c.args.sel
 
 pub returns-in-Some : goal.returns-in-Some
 returns-in-Some c = λ filled h.
-    offered_suits c.args.self.now.sig.now c.args.self.now.unchosen.now (shapes_by c.args.self.now.chosen.now) filled c.args.x c.in-Some.shapes.now c.has_constant-identity.result c.low_among-low.result h c.in-Some.ensures c.has_constant-identity.ensures c.low_among-low.ensures
+    offered_suits c.args.self.now.sig.now c.args.self.now.unchosen.now (shapes_by c.args.self.now.chosen.now) filled c.args.x c.in-Some.shapes.now c.has_constant-identity.result c.low_among-low.result c.high_among-high.result h c.in-Some.ensures c.has_constant-identity.ensures c.low_among-low.ensures c.high_among-high.ensures

@@ -28,7 +28,7 @@ find-find_for-requires t c =
           (
             c.requires.allowed,
             λ o i.
-                entry_allowed s.sig.now c.recall_good.ensures c.recall_completed.ensures s.sought s.unchosen.now c.requires.posed.offers c.args.from c.index-all-from.result (omega (arith, c.requires.within, c.if-from-all.false)) c.index-all-from.is o
+                entry_allowed s.sig.now s.unchosen.now c.requires.posed.offers c.args.from c.index-all-from.result (omega (arith, c.requires.within, c.if-from-all.false)) c.index-all-from.is o
                 (subst (λ l. Contains l o) c.as_slice.ensures i),
           ),
         ),

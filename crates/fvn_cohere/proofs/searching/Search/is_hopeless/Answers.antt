@@ -22,5 +22,5 @@ returns c = λ h.
     let d = s.sig.now in
     let env = shapes_by c.args.chosen.now in
     let test = is_met d s.sought s.identities.now (term s.left.now) (term s.right.now) in
-    none_found d c.recall_good.ensures c.recall_completed.ensures s.sought test (drop c.args.from s.unchosen.now) (offers_drop d s.sought s.unchosen.now c.args.from c.requires.posed.offers) env c.requires.allowed
+    none_found d test (drop c.args.from s.unchosen.now) (offers_drop d s.unchosen.now c.args.from c.requires.posed.offers) env c.requires.allowed
     (subst (λ (l : List (Var × List Shape)). (filled : Var → Shape) → Fills d l env filled → test filled ≡ false) (take_rest s.unchosen.now c.args.from) (c.excludes.ensures h))

@@ -4,7 +4,7 @@ use Rattle.std.proofs.lemmas.List.{length_push, get_or_push}
 use Rattle.fvn_combine_nodes.specs.States.{IsClosed, IsOpen}
 use Rattle.fvn_combine_nodes.specs.Questions.{AreAnswers}
 use Rattle.fvn_combine_nodes.specs.inner.Starts.{listed}
-use Rattle.fvn_combine_nodes.proofs.Growing.{asked_is, asked_closed, asked_falls, last_is}
+use Rattle.fvn_combine_nodes.proofs.Growing.{asked_is, asked_closed, asked_ordered, asked_falls, last_is}
 use Rattle.fvn_combine_nodes.proofs.tree.Tree.ask.Goals as goal
 use Rattle.fvn_combine_nodes.proofs.tree.Tree.ask.Goals.{In-Some}
 
@@ -48,6 +48,7 @@ returns c =
     record {
       asked = asked_is d t top c.args.i c.args.j a are before after below c.requires.open.is is;
       closed = asked_closed d t top c.args.i c.args.j a are before after below c.requires.open.is is c.requires.closed;
+      ordered = asked_ordered d t top c.args.i c.args.j a are before after below c.requires.open.is is c.requires.left c.requires.right;
       falls = asked_falls d t top c.args.i c.args.j a are before after below c.requires.open.is is;
       no_memory = tt;
     }

@@ -4,7 +4,7 @@ use Rattle.std.specs.Option.{option_to_list}
 use Rattle.std.proofs.lemmas.List.{length_push, get_or_push, append-nil}
 use Rattle.fvn_combine_nodes.specs.States.{IsClosed, IsOpen}
 use Rattle.fvn_combine_nodes.specs.Questions.{IsAnswer}
-use Rattle.fvn_combine_nodes.proofs.Growing.{taken_on_is, taken_on_closed, taken_on_falls, last_is}
+use Rattle.fvn_combine_nodes.proofs.Growing.{taken_on_is, taken_on_closed, taken_on_ordered, taken_on_falls, last_is}
 use Rattle.fvn_combine_nodes.proofs.tree.Tree.part.Goals as goal
 use Rattle.fvn_combine_nodes.proofs.tree.Tree.part.Goals.{In-Some}
 
@@ -49,6 +49,7 @@ returns c =
     record {
       parted = taken_on_is d t top Holds r answer before after below c.requires.open.is is;
       closed = taken_on_closed d t top Holds r answer before after below c.requires.open.is is c.requires.closed;
+      ordered = taken_on_ordered d t top Holds r answer before after below c.requires.open.is is;
       falls = taken_on_falls d t top Holds r answer before after below c.requires.open.is is;
       no_memory = tt;
     }

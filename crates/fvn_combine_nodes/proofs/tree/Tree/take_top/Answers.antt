@@ -2,7 +2,7 @@
 use Rattle.std.proofs.Common.{◌≡◌, ℕ, ◌+◌, length, Option, Some, None, sym, ◌∙◌}
 use Rattle.std.specs.Prelude.{MatchOption}
 use Rattle.fvn_combine_nodes.specs.declared.state.State.{State}
-use Rattle.fvn_combine_nodes.proofs.Growing.{taken, taken_falls}
+use Rattle.fvn_combine_nodes.proofs.Growing.{taken, taken_falls, taken_ordered}
 use Rattle.fvn_combine_nodes.proofs.tree.Tree.take_top.Goals as goal
 
 emptied : (r : Option State) (n m k : ℕ) → k ≡ m → MatchOption r ((n ≡ 0) × (k ≡ 0)) (λ _. k + 1 ≡ n) → MatchOption r (m ≡ 0) (λ s. Unit {0})
@@ -13,4 +13,8 @@ pub returns : goal.returns
 returns c =
     let is = sym c.self.view_is ∙ c.pop.ensures.items in
     let none = emptied c.pop.result c.self.inside.states.len (length c.pop.new.self.items) c.pop.new.self.len c.pop.new.self.ok.0 c.pop.ensures.cases in
-    record { taken = taken c.args.self.now c.pop.new.self.items c.pop.result is none; falls = taken_falls c.args.self.now c.pop.new.self.items c.pop.result is }
+    record {
+      taken = taken c.args.self.now c.pop.new.self.items c.pop.result is none;
+      falls = taken_falls c.args.self.now c.pop.new.self.items c.pop.result is;
+      ordered = taken_ordered c.args.self.now c.pop.new.self.items c.pop.result is;
+    }

@@ -1,0 +1,26 @@
+-- The value is one summand, or sorts have it.
+use Rattle.std.proofs.Common.{List, length, ap, subst, arith}
+use Rattle.std.specs.Prelude.{Bool}
+use Rattle.fvn_combine_nodes.specs.States.{class_of}
+use Rattle.fvn_combine_inferring.specs.inner.Bounds.{IsMarked}
+use Rattle.fvn_combine_inferring.proofs.Values.{name_within}
+use Rattle.fvn_combine_inferring.proofs.Marks.{narrow_few}
+use Rattle.fvn_combine_inferring.proofs.bounds.has_few_summands.Goals as goal
+
+pub is_marked-requires : goal.is_marked-requires
+is_marked-requires c =
+    let w = c.requires.closed.whole in
+    let k = c.requires.within in
+    let n = c.requires.addition.narrow.as_many in
+    let e = ap length c.as_slice.ensures in
+    let m = name_within c.args.sig.now c.args.table.now c.args.state.now c.requires.closed c.args.k c.requires.within in
+    record { within = omega (arith, w, k); marks = omega (arith, n, m, e) }
+
+pub returns-then-is_headed : goal.returns-then-is_headed
+returns-then-is_headed c t values go = let n = ap length (c.is_headed.ensures c.if-is_headed.true values go) in omega (arith, n)
+
+pub returns : goal.returns
+returns c t values go =
+    let a = c.args.addition.now in
+    let marked = subst (λ (l : List Bool). IsMarked c.args.known.now.sorted l (class_of c.args.state.now c.args.k)) c.as_slice.ensures (c.is_marked.ensures t) in
+    narrow_few c.args.sig.now c.args.table.now c.args.state.now c.args.known.now.sorted a.operator c.requires.addition.associative a.narrow c.requires.addition.narrow c.args.k marked values go

@@ -1,0 +1,10 @@
+-- What is noted so far heads the values.
+use Rattle.std.proofs.Common.{◌≡◌}
+use Rattle.fvn_combine_inferring.proofs.heads.known_of.Given as goal
+use Rattle.fvn_combine_inferring.specs.Inferred.{TellHeads}
+
+abbrev pub invariant-loop-sums : goal.invariant-loop-sums
+invariant-loop-sums l = record {
+  heads : TellHeads l.sig l.table l.state l.known.sorted l.known.heads.items;
+  sorted : l.known.sorted ≡ l.sorted;
+}

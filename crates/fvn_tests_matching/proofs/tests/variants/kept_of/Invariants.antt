@@ -1,6 +1,0 @@
--- the variants so far
-use Rattle.std.proofs.Common.{◌≡◌}
-use Rattle.fvn_tests_matching.proofs.tests.variants.kept_of.Given as goal
-
-abbrev pub invariant-loop-v : goal.invariant-loop-v
-invariant-loop-v l = l.all.items ≡ l.yielded
