@@ -1,3 +1,2 @@
 -- Lemmas on fixed terms.
 mod Keeping
-mod Asking

@@ -1,3 +1,2 @@
 -- What contracts of these tests speak of.
 pub mod Settings
-pub mod Asked

@@ -1,4 +1,4 @@
-//! Tests of unifiers in theories: the reply to `vunify`, and what is found where terms are to stay irreducible.
+//! Tests of the reply to `vunify`, and an expander that keeps terms fixed.
 #![tactic(auto)]
 
 mod fixing;
