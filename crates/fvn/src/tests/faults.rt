@@ -202,7 +202,7 @@ fn deep_told<R: Abort + Threads + Sync>(
     want: Status,
     text: &[u8],
 ) -> Result<(), NoMemory> {
-    let module = deep(alloc, before, 100_000)?;
+    let module = deep(alloc, before, 20_000)?;
     assert_answer(rt, alloc, words, module.as_bytes(), want, text)
 }
 
@@ -215,7 +215,7 @@ vunify | g(a) =? a ==> {} | complete 1
 verify | g(a) =? a | {} ==> yes
 terminates | g : 1 1 ==> terminates";
 
-/// A left side in 100,000 pairs of parentheses is read, and one of 100,002 symbols is refused.
+/// A left side in 20,000 pairs of parentheses is read, and one of 20,002 symbols is refused.
 fn command_goes_deep<R: Abort + Threads + Sync>(
     rt: &R,
     alloc: Global,
