@@ -13,7 +13,7 @@ fn have_one_kind(sig: &Signature, p: &Flat, t: &Flat) -> bool
     requires target { Fits sig.now t.now }
     ensures { IsTrue result ↔ HaveOneKind sig.now p.now t.now }
 {
-    sig.kind(p.least_sort(sig)) == sig.kind(t.least_sort(sig))
+    p.kind(sig) == t.kind(sig)
 }
 
 // Whether each pattern is of the kind of its target.
