@@ -36,7 +36,9 @@ pub(crate) fn all_have_one_kind(sig: &Signature, patterns: &[Flat], targets: &[F
     true
 }
 
-// Whether a term of a variable's kind has the variable's sort; where that is the kind, the term is not looked at.
+// Whether a term of a variable's kind has the variable's sort, or one below it.
+//
+// Where that sort is the kind, the term is not looked at.
 pub(crate) fn has_sort_of(sig: &Signature, x: Var, t: &Flat) -> bool
     requires { IsPair sig.now (fvar x) t.now }
     ensures { IsTrue result ↔ AtOrBelow sig.now (least_sort sig.now t.now) x.sort }
