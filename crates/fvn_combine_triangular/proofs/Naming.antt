@@ -4,15 +4,13 @@ use Rattle.std.specs.Prelude.{◌↔◌, AllPairs, slice_get}
 use Rattle.std.proofs.lemmas.Bool.{cases_lt}
 use Rattle.std.proofs.lemmas.List.Elements.{Contains-get_or, Contains-append_left, Contains-push, Contains-push_cases}
 use Rattle.std.proofs.lemmas.List.Quantifiers.{all_pairs_push}
-use Rattle.std.proofs.lemmas.Option.{slice_get_within, slice_get-get_or, get_or_from_slice_get}
+use Rattle.std.proofs.lemmas.Option.{slice_get_within, slice_get-get_or}
 use Rattle.fvn_terms.specs.declared.plain.Var.{Var as Variable}
 use Rattle.fvn_terms.specs.declared.plain.OpId.{OpId}
 use Rattle.fvn_terms.specs.declared.plain.SortId.{SortId}
-use Rattle.fvn_terms.specs.declared.declarations.Rank.{Rank}
-use Rattle.fvn_terms.specs.declared.declarations.OpDecl.{OpDecl}
 use Rattle.fvn_terms.specs.declared.declarations.Declarations.{Declarations}
-use Rattle.fvn_terms.specs.Signature.{kind, declared, HasKind}
-use Rattle.fvn_forms.specs.Good.{IsGood}
+use Rattle.fvn_terms.specs.Signature.{kind, HasKind}
+use Rattle.fvn_signature.specs.Queries.{GivesKind}
 use Rattle.fvn_combine_nodes.specs.Table.{NodeTable, IsWellMade, IsOver, term_at}
 use Rattle.fvn_combine_nodes.specs.declared.table.Node.{Node}
 use Rattle.fvn_combine_nodes.specs.declared.table.Node.TheVariants.{Var, App}
@@ -25,14 +23,6 @@ use Rattle.fvn_combine_triangular.specs.inner.Planning.{no_name, IsNameAt, AreNa
 abbrev pub IsNoted : Node → List Variable → List Variable → Type 0
 IsNoted (Var x) before now = now ≡ before ++ x ∷ []
 IsNoted (App f ks) before now = now ≡ before
-
--- what one declaration of an operator gives has the kind of what each gives
-pub one_kind : {d : Declarations} → IsGood d → (f : OpId) (known : OpDecl) → known ≡ declared d f → (ranks : List Rank) → ranks ≡ known.ranks → (r : Rank) → Some r ≡ slice_get ranks 0 → (p : Rank) → Contains (declared d f).ranks p → kind d r.result ≡ kind d p.result
-one_kind {d} good f known is ranks are r at p m =
-    let e : ranks ≡ (declared d f).ranks = are ∙ ap (λ o. o.ranks) is in
-    let here = slice_get_within ranks 0 r (sym at) in
-    let listed : Contains ranks r = (0, here, get_or_from_slice_get ranks 0 r r (sym at)) in
-    (good.fits.agree f r p (subst (λ l. Contains l r) e listed) m).1
 
 module _ (t : NodeTable) (made : IsWellMade t) where
   -- the variables of the nodes before this one
@@ -114,7 +104,7 @@ module _ (t : NodeTable) (made : IsWellMade t) where
     pub kind_of_variable : (i : ℕ) (x : Variable) → slice_get t.nodes i ≡ Some (Var x) → (k : SortId) → HasKind d (term_at t.nodes i) k → kind d x.sort ≡ k
     kind_of_variable i x is k h = (subst (λ u. HasKind d u k) (term_at-variable t.nodes i x is) h).1
 
-    pub kind_of_operator : (i : ℕ) (f : OpId) (ks : List ℕ) → IsOver t.nodes i f ks → (q : SortId) → ((r : Rank) → Contains (declared d f).ranks r → q ≡ kind d r.result) → (k : SortId) → HasKind d (term_at t.nodes i) k → q ≡ k
+    pub kind_of_operator : (i : ℕ) (f : OpId) (ks : List ℕ) → IsOver t.nodes i f ks → (q : SortId) → GivesKind d f q → (k : SortId) → HasKind d (term_at t.nodes i) k → q ≡ k
     kind_of_operator i f ks is q known k h =
         let fits = subst (λ u. HasKind d u k) (term_at-over t.nodes made.ordered i f ks is) h in
         known fits.rank fits.listed ∙ fits.result

@@ -1,15 +1,14 @@
 //! The variables of a table, and the new variables that name its classes.
-ghost use Rattle.std.specs.Prelude.{◌≡◌, ◌+◌, ◌<◌, ◌^◌, length, IfOk, Contains};
+ghost use Rattle.std.specs.Prelude.{◌≡◌, ◌+◌, ◌<◌, ◌^◌, length, IfOk};
 ghost use Rattle.fvn_terms.specs.declared.plain.SortId.{SortId as Sort};
-ghost use Rattle.fvn_terms.specs.declared.declarations.Rank.{Rank as Declared};
-ghost use Rattle.fvn_terms.specs.Signature.{kind, declared, HasKind};
+ghost use Rattle.fvn_terms.specs.Signature.{HasKind};
 ghost use Rattle.fvn_combine_nodes.specs.Table.{term_at};
 ghost use Rattle.fvn_combine_triangular.specs.Ready.{AreVariablesOf};
 ghost use Rattle.fvn_combine_triangular.specs.inner.Planning.{AreNames};
 
 use fvn_combine_nodes::{Node, Table};
 use fvn_signature::Signature;
-use fvn_terms::{NoMemory, OpId, SortId, Var};
+use fvn_terms::{NoMemory, SortId, Var};
 use std::alloc::Global;
 
 /// The variables of a table, each once.
@@ -27,21 +26,6 @@ pub fn variables(alloc: Global, table: &Table) -> Result<Vec<Var>, NoMemory>
     Ok(vars)
 }
 
-// The kind of what the operator gives.
-pub(crate) fn operator_kind(sig: &Signature, f: OpId) -> SortId
-    ensures { (r : Declared) → Contains (declared sig.now f).ranks r
-        → result ≡ kind sig.now r.result }
-{
-    sig.recall_good();
-    match sig.declarations().declared(f) {
-        None => SortId(0),
-        Some(known) => match known.ranks.as_slice().first() {
-            None => SortId(0),
-            Some(rank) => sig.kind(rank.result),
-        },
-    }
-}
-
 /// The kind of a node.
 pub fn node_kind(sig: &Signature, table: &Table, i: usize) -> SortId
     requires { i < length table.now.nodes }
@@ -50,7 +34,7 @@ pub fn node_kind(sig: &Signature, table: &Table, i: usize) -> SortId
     table.recall_well_made();
     match table.node(i) {
         Node::Var(x) => sig.kind(x.sort),
-        Node::App(f, _) => operator_kind(sig, *f),
+        Node::App(f, _) => sig.operator_kind(*f),
     }
 }
 

@@ -13,7 +13,6 @@ ghost use Rattle.fvn_combine_triangular.specs.inner.Planning.{
   AreSized,
 };
 
-use crate::names::operator_kind;
 use fvn_base::Seq;
 use fvn_base::limits::MINIMAL_SOLUTIONS;
 use fvn_combine_admissible::{asked, taken};
@@ -78,7 +77,7 @@ fn shares_of(
     table.recall_well_made();
     let asked = asked(alloc, sig, table, state, reading, tags, sums)?;
     let solutions = taken(alloc, basis, number)?;
-    let kind = operator_kind(sig, sums.operator);
+    let kind = sig.operator_kind(sums.operator);
     let mut shares = Vec::new(alloc);
     let mut next = start;
     for solution in solutions.as_slice() {

@@ -19,6 +19,7 @@ pub mod Composing
 pub mod ListedVariables
 mod Renamings
 mod SortsOfFlats
+mod KindsOfFlats
 pub mod VariableLists
 mod OneAnswer
 mod PlainAnswers

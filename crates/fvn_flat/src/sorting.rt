@@ -1,5 +1,6 @@
-//! The least sort of a flat term.
+//! The least sort of a flat term, and its kind.
 ghost use Rattle.std.specs.Prelude.{◌≡◌, ◌<◌, []};
+ghost use Rattle.fvn_terms.specs.Signature.{kind, HasKind};
 ghost use Rattle.fvn_terms.specs.Sorts.{IsLeastSort};
 ghost use Rattle.fvn_forms.specs.Flat.{plain};
 ghost use Rattle.fvn_forms.specs.LeastSort.{least_sort};
@@ -68,5 +69,20 @@ impl Flat {
     {
         sig.recall_good();
         self.sort_in(sig)
+    }
+
+    /// The kind of the term, and so of each that is equal to it modulo the axioms.
+    ///
+    /// Its head tells it: all declarations of an operator give one kind.
+    pub fn kind(&self, sig: &Signature) -> SortId
+        requires { Fits sig.now self.now }
+        ensures exact { result ≡ kind sig.now (least_sort sig.now self.now) }
+        ensures has { HasKind sig.now (plain self.now) result }
+    {
+        sig.recall_good();
+        match &self.node {
+            Node::Var(x) => sig.kind(x.sort),
+            Node::App(f, _, _) => sig.operator_kind(*f),
+        }
     }
 }

@@ -3,18 +3,20 @@ use Rattle.std.proofs.Common.{◌≡◌, ℕ, ◌+◌, ◌<◌, ◌≤◌, List,
 use Rattle.std.specs.Prelude.{◌↔◌}
 use Rattle.std.specs.List.{AllZip}
 use Rattle.std.proofs.lemmas.List.{drop_more, drop_all}
+use Rattle.fvn_terms.specs.declared.plain.Var.{Var}
 use Rattle.fvn_terms.specs.declared.plain.SortId.{SortId}
 use Rattle.fvn_terms.specs.declared.declarations.Declarations.{Declarations}
 use Rattle.fvn_terms.specs.Substitution.{Substitution, apply}
-use Rattle.fvn_terms.specs.Signature.{kind, HasKind}
+use Rattle.fvn_terms.specs.Signature.{kind, AtOrBelow, HasKind}
 use Rattle.fvn_terms.specs.Equality.{BEqual}
 use Rattle.fvn_terms.specs.Sorts.{IsWellSorted}
 use Rattle.fvn_terms.proofs.Equal.{HasKind-apply}
-use Rattle.fvn_forms.specs.Flat.{FlatTerm, plain}
+use Rattle.fvn_forms.specs.Flat.{FlatTerm, fvar, plain}
 use Rattle.fvn_forms.specs.Good.{IsGood}
 use Rattle.fvn_forms.specs.LeastSort.{least_sort}
 use Rattle.fvn_forms.specs.Settled.{Settled}
 use Rattle.fvn_forms.proofs.KindsKept.{b_equal_keeps_kind}
+use Rattle.fvn_forms.proofs.SortOrder.{AtOrBelow-kind}
 use Rattle.fvn_forms.proofs.LeastSort.{sort_in-kind}
 use Rattle.fvn_flat.specs.Fits.{AllFit}
 use Rattle.fvn_match.specs.inner.Pairing.{HaveOneKind}
@@ -32,6 +34,11 @@ zip-end R xs ys i h k = subst (λ l. AllZip R l (drop i ys)) (sym (drop_all i xs
 module _ (d : Declarations) (good : IsGood d) where
   kind_is : (t : FlatTerm) → Settled d t → (k : SortId) → HasKind d (plain t) k → kind d (least_sort d t) ≡ k
   kind_is t s k h = sort_in-kind d good (λ x. x.sort) (λ x i. refl) t s k h
+
+  -- a form of a variable's kind has the variable's sort where that is a kind
+  pub has_kind_itself : (x : Var) (t : FlatTerm) → IsPair d (fvar x) t → kind d x.sort ≡ x.sort → AtOrBelow d (least_sort d t) x.sort
+  has_kind_itself x t pair own =
+      subst (AtOrBelow d (least_sort d t)) (kind_is t pair.target pair.of_kind pair.target_kind ∙ sym pair.pattern_kind.1 ∙ own) (AtOrBelow-kind d (least_sort d t))
 
   pub one_kind_pairs : (ps ts : List FlatTerm) → AllFit d ps → AllFit d ts → AllZip (HaveOneKind d) ps ts → AllZip (IsPair d) ps ts
   one_kind_pairs [] [] fp ft h = tt

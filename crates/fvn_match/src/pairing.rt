@@ -1,11 +1,16 @@
 //! Patterns and targets, pair by pair.
 ghost use Rattle.std.specs.Prelude.{◌≡◌, ◌↔◌, length, IsTrue};
 ghost use Rattle.std.specs.List.{AllZip};
+ghost use Rattle.fvn_terms.specs.Signature.{AtOrBelow};
+ghost use Rattle.fvn_forms.specs.Flat.{fvar};
+ghost use Rattle.fvn_forms.specs.LeastSort.{least_sort};
 ghost use Rattle.fvn_flat.specs.Fits.{Fits, AllFit};
+ghost use Rattle.fvn_match.specs.inner.Goals.{IsPair};
 ghost use Rattle.fvn_match.specs.inner.Pairing.{HaveOneKind};
 
 use fvn_flat::Flat;
 use fvn_signature::Signature;
+use fvn_terms::Var;
 
 // Whether two terms are of one kind.
 fn have_one_kind(sig: &Signature, p: &Flat, t: &Flat) -> bool
@@ -13,7 +18,7 @@ fn have_one_kind(sig: &Signature, p: &Flat, t: &Flat) -> bool
     requires target { Fits sig.now t.now }
     ensures { IsTrue result ↔ HaveOneKind sig.now p.now t.now }
 {
-    sig.kind(p.least_sort(sig)) == sig.kind(t.least_sort(sig))
+    p.kind(sig) == t.kind(sig)
 }
 
 // Whether each pattern is of the kind of its target.
@@ -29,4 +34,18 @@ pub(crate) fn all_have_one_kind(sig: &Signature, patterns: &[Flat], targets: &[F
         }
     }
     true
+}
+
+// Whether a term of a variable's kind has the variable's sort, or one below it.
+//
+// Where that sort is the kind, the term is not looked at.
+pub(crate) fn has_sort_of(sig: &Signature, x: Var, t: &Flat) -> bool
+    requires { IsPair sig.now (fvar x) t.now }
+    ensures { IsTrue result ↔ AtOrBelow sig.now (least_sort sig.now t.now) x.sort }
+{
+    sig.recall_good();
+    if sig.kind(x.sort) == x.sort {
+        return true;
+    }
+    sig.leq(t.least_sort(sig), x.sort)
 }

@@ -25,6 +25,7 @@ use crate::answers::answer;
 use crate::choices::{advanced, quotients, reduced, zeros};
 use crate::goals::{Bound, Goals, SumGoal, Sums};
 use crate::known::{has_known, without_known};
+use crate::pairing::has_sort_of;
 use crate::summands::{after, alike, count_pieces, is_headed, reversed, summands};
 use crate::wholes::{are_zero, is_short, room, whole};
 use fvn_flat::{Flat, Subst};
@@ -148,7 +149,7 @@ impl Search<'_> {
                 self.solve(&*rest, &*sums, &*bound)
             }
             None => {
-                if !self.sig.leq(t.least_sort(self.sig), x.sort) {
+                if !has_sort_of(self.sig, x, t) {
                     return Ok(None);
                 }
                 let more = Bound::Bind(x, &*t, &*bound);

@@ -19,10 +19,9 @@ fn new_variable(sig: &Signature, t: &Flat) -> Var
     requires { Fits sig.now t.now }
     ensures { result ≡ new_variable sig.now t.now }
 {
-    let sort = t.least_sort(sig);
     Var {
         name: 0,
-        sort: sig.kind(sort),
+        sort: t.kind(sig),
         fresh: true,
     }
 }

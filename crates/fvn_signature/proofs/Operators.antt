@@ -1,10 +1,15 @@
--- The operators of what was collected, and their declarations.
-use Rattle.std.proofs.Common.{◌≡◌, ℕ, ◌+◌, ◌<◌, ◌≤◌, true, length, sym, ap, subst, ◌⊎◌, inl, inr, arith}
+-- The operators of what was collected, their declarations, and the kinds that these give.
+use Rattle.std.proofs.Common.{◌≡◌, ℕ, ◌+◌, ◌<◌, ◌≤◌, true, List, [], ◌∷◌, length, refl, sym, ap, subst, ◌⊎◌, inl, inr, arith}
 use Rattle.std.specs.List.{Contains}
 use Rattle.std.proofs.lemmas.Bool.{eq-eqb, eqb-true, cases_lt}
 use Rattle.std.proofs.lemmas.List.FromFn.{length-map-range_with_len}
 use Rattle.fvn_terms.specs.declared.plain.OpId.{OpId}
-use Rattle.fvn_base.proofs.Membership.{filter_contains}
+use Rattle.fvn_terms.specs.declared.declarations.Rank.{Rank}
+use Rattle.fvn_terms.specs.declared.declarations.Declarations.{Declarations}
+use Rattle.fvn_terms.specs.Signature.{kind, declared}
+use Rattle.fvn_forms.specs.Good.{IsGood}
+use Rattle.fvn_forms.specs.Ranks.{first_result}
+use Rattle.fvn_base.proofs.Membership.{contains_here, contains_none, filter_contains}
 use Rattle.fvn_signature.specs.declared.collected.Declaration.{Declaration}
 use Rattle.fvn_signature.specs.declared.collected.Collected.{Collected}
 use Rattle.fvn_signature.specs.Collected.{op_number, same_op, declarations_of, operator_meant, completed}
@@ -28,3 +33,12 @@ more_operators P n before here g l = go (cases_lt g.0 n) where
   go : (g.0 < n) ⊎ (n ≤ g.0) → P g
   go (inl m) = before g m
   go (inr m) = let e : g.0 ≡ n = omega arith in subst (λ k. P (op_number k)) (sym e) here
+
+module _ (d : Declarations) (good : IsGood d) (f : OpId) where
+  first_of : (rs : List Rank) → (declared d f).ranks ≡ rs → (r : Rank) → Contains rs r → first_result d rs ≡ kind d r.result
+  first_of [] e r h = absurd (contains_none r h)
+  first_of (q ∷ qs) e r h = (good.fits.agree f q r (subst (λ l. Contains l q) (sym e) (contains_here q qs)) (subst (λ l. Contains l r) (sym e) h)).1
+
+  -- each declaration gives the kind that the first one does
+  pub first_gives : (r : Rank) → Contains (declared d f).ranks r → first_result d (declared d f).ranks ≡ kind d r.result
+  first_gives = first_of (declared d f).ranks refl

@@ -20,6 +20,10 @@ module _ (d : Declarations) where
   abbrev pub arity : OpId → ℕ
   arity f = first_length (declared d f).ranks
 
+  -- by each of its declarations f gives this kind
+  abbrev pub GivesKind : OpId → SortId → Type 0
+  GivesKind f k = (r : Rank) → Contains (declared d f).ranks r → k ≡ kind d r.result
+
   -- k is one of the kinds; they are numbered after the declared sorts
   pub record IsKind (k : SortId) : Type 0 where
     pub after_sorts : d.sorts ≤ k.0

@@ -172,8 +172,8 @@ impl Draft {
         }
     }
 
-    /// The kind of what an operator's first declaration gives.
-    fn first_kind(&self, op: OpId) -> SortId
+    /// The kind of what an operator's first declaration gives; of one without declarations sort 0.
+    pub(crate) fn first_kind(&self, op: OpId) -> SortId
         ensures { result ≡ first_result self.now.declarations (declared self.now.declarations op).ranks }
     {
         match self.declarations.declared(op) {

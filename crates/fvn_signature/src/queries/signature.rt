@@ -5,7 +5,7 @@ ghost use Rattle.fvn_terms.specs.Signature.{kind, axioms, AtOrBelow, IsSort};
 ghost use Rattle.fvn_terms.specs.Equality.{identity};
 ghost use Rattle.fvn_forms.specs.Good.{IsGood, TakesKinds};
 ghost use Rattle.fvn_forms.specs.Ranks.{ranks_of, IsResult, result as least_result};
-ghost use Rattle.fvn_signature.specs.Queries.{arity, direct_subsorts, IsKind, IsTop, IsCompleted};
+ghost use Rattle.fvn_signature.specs.Queries.{arity, direct_subsorts, GivesKind, IsKind, IsTop, IsCompleted};
 
 use crate::draft::Draft;
 use crate::queries::subsorts::{all_direct_subsorts, first_maximal};
@@ -89,6 +89,13 @@ impl Signature {
         ensures is_kind { IsSort self.now s → IsKind self.now result }
     {
         self.draft.declarations.kind(s)
+    }
+
+    /// The kind of what an operator gives, the same by each of its declarations.
+    pub fn operator_kind(&self, op: OpId) -> SortId
+        ensures { GivesKind self.now op result }
+    {
+        self.draft.first_kind(op)
     }
 
     /// The sort after which a kind is printed: the first of its maximal sorts.

@@ -140,6 +140,13 @@ A B; f : -> A; g : -> B; h : A B -> A; i : A B -> A
 A0 B0 h B0 i | f g h g i => A0 f; B0 g
 A0 B0 h B0 i | f B0 h B1 i => no
 A0 B0 h B1 i | f B0 h B1 i => A0 f; B0 B0; B1 B1
+A0 | g => no
+f | g => no
+C0 | f => C0 f
+C0 | g => no
+C0 D0 h | f g h => C0 f; D0 g
+D0, C0 | g, f => D0 g; C0 f
+D0, C0 | g, g => no
 
 A B C; A < C; B < C; f : C C -> C; f : A A -> A; f : B B -> A; f : A B -> B; f : B A -> B
 A0 C0 f | B0 B1 f C1 f => A0 f(B0 B1); C0 C1

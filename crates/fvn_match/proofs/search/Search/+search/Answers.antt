@@ -4,7 +4,7 @@ use Rattle.std.specs.Prelude.{IfOk, ◌*◌, reverse, sum as std_sum}
 use Rattle.std.specs.List.{AllZip, AllByRecursion}
 use Rattle.std.proofs.lemmas.Bool.{false≢true, eqb-true}
 use Rattle.std.proofs.lemmas.List.{take_rest}
-use Rattle.fvn_terms.specs.Signature.{kind, axioms, AtOrBelow}
+use Rattle.fvn_terms.specs.Signature.{kind, axioms}
 use Rattle.fvn_terms.specs.Equality.{is_sum}
 use Rattle.fvn_terms.proofs.AxiomWords.{sums_associate}
 use Rattle.fvn_forms.specs.InOrder.{InOrder}
@@ -196,17 +196,17 @@ variable-returns-else-not-same t c =
     found_known c.args.self.now.sig.now (bindings_of c.args.bound.now) c.args.x c.args.t.now c.requires.pair c.args.self.now.vars.now (Asked c.args.self.now.sig.now c.args.rest.now c.args.sums.now)
     c.in-Some.v.now c.in-Some.ensures (c.same.ensures.exact.0 c.if-not-same.false) c.solve.result c.solve.ensures
 
-pub variable-least_sort-requires : goal.variable-least_sort-requires
-variable-least_sort-requires t c = record { flat = c.requires.pair.target; kinded = (c.requires.pair.of_kind, c.requires.pair.target_kind) }
+pub variable-has_sort_of-requires : goal.variable-has_sort_of-requires
+variable-has_sort_of-requires t c = c.requires.pair
 
-pub variable-returns-then-not-leq : goal.variable-returns-then-not-leq
-variable-returns-then-not-leq t c =
+pub variable-returns-then-not-has_sort_of : goal.variable-returns-then-not-has_sort_of
+variable-returns-then-not-has_sort_of t c =
     refused_sort c.args.self.now.sig.now (bindings_of c.args.bound.now) c.args.x c.args.t.now c.requires.pair c.args.self.now.vars.now (Asked c.args.self.now.sig.now c.args.rest.now c.args.sums.now)
-    (λ h. false≢true (sym c.if-not-leq.true ∙ c.leq.ensures.1 (subst (λ s. AtOrBelow c.args.self.now.sig.now s c.args.x.sort) (sym c.least_sort.ensures.exact) h)))
+    (λ h. false≢true (sym c.if-not-has_sort_of.true ∙ c.has_sort_of.ensures.1 h))
 
 pub variable-solve-requires-in-None : goal.variable-solve-requires-in-None
 variable-solve-requires-in-None t c =
-    let low = subst (λ s. AtOrBelow c.args.self.now.sig.now s c.args.x.sort) c.least_sort.ensures.exact (c.leq.ensures.0 c.if-not-leq.false) in (
+    let low = c.has_sort_of.ensures.0 c.if-not-has_sort_of.false in (
       omega arith,
       (
         c.requires.vars,
@@ -218,8 +218,8 @@ variable-solve-requires-in-None t c =
       ),
     )
 
-pub variable-returns-else-not-leq : goal.variable-returns-else-not-leq
-variable-returns-else-not-leq t c =
+pub variable-returns-else-not-has_sort_of : goal.variable-returns-else-not-has_sort_of
+variable-returns-else-not-has_sort_of t c =
     if_found_bound c.args.self.now.sig.now (bindings_of c.args.bound.now) c.args.x c.args.t.now c.requires.pair c.args.self.now.vars.now (Asked c.args.self.now.sig.now c.args.rest.now c.args.sums.now)
     c.in-None.ensures c.solve-in-None.result c.solve-in-None.ensures
 
