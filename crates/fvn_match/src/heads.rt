@@ -92,9 +92,6 @@ pub fn may_match(sig: &Signature, pattern: &Flat, target: &Flat) -> bool
     sig.recall_good();
     match kept_head(sig, pattern) {
         None => true,
-        Some(f) => {
-            let may = may_keep(sig, f, pattern, target);
-            may
-        }
+        Some(f) => may_keep(sig, f, pattern, target),
     }
 }
