@@ -1,10 +1,11 @@
 //! Whether heads leave it open that a pattern has a term as an instance.
 ghost use Rattle.std.specs.Prelude.{◌≡◌, false, [], ◌∷◌, IsTrue, None, IfSome};
+ghost use Rattle.fvn_forms.specs.InOrder.{one_if};
 ghost use Rattle.fvn_terms.specs.Signature.{axioms};
 ghost use Rattle.fvn_terms.specs.Equality.{identity};
 ghost use Rattle.fvn_flat.specs.Fits.{Fits, AllFit};
 ghost use Rattle.fvn_match.specs.Matching.{HasNoMatcher};
-ghost use Rattle.fvn_match.specs.inner.Heads.{KeepsHead, IsLost, IsLostAmong};
+ghost use Rattle.fvn_match.specs.inner.Heads.{is_headed_by, headed_in, KeepsHead, IsLost, IsLostAmong};
 
 use crate::summands::is_headed;
 use fvn_flat::Flat;
@@ -34,6 +35,25 @@ fn kept_head(sig: &Signature, p: &Flat) -> Option<OpId>
     }
 }
 
+// One where the operator heads the term, else nothing.
+fn one_if_headed(t: &Flat, f: OpId) -> usize
+    ensures { result ≡ one_if (is_headed_by f t.now) }
+{
+    let headed = is_headed(t, f);
+    if headed { 1 } else { 0 }
+}
+
+// How many of the terms the operator heads.
+fn count_headed(ts: &[Flat], f: OpId) -> usize
+    ensures { result ≡ headed_in f ts.now }
+{
+    let mut count = 0;
+    for i in 0..ts.len() {
+        count += one_if_headed(&ts[i], f);
+    }
+    count
+}
+
 // Whether the pattern, which keeps this head, may make the term.
 #[cycle(keep)]
 fn may_keep(sig: &Signature, f: OpId, p: &Flat, t: &Flat) -> bool
@@ -50,7 +70,7 @@ fn may_keep(sig: &Signature, f: OpId, p: &Flat, t: &Flat) -> bool
     let ps = p.args();
     let ts = t.args();
     for q in ps {
-        let stays = may_stand(sig, q, ts);
+        let stays = may_stand(sig, ps, q, ts);
         if !stays {
             return false;
         }
@@ -58,16 +78,21 @@ fn may_keep(sig: &Signature, f: OpId, p: &Flat, t: &Flat) -> bool
     true
 }
 
-// Whether the pattern may make one of the terms; one that keeps no head may.
+// Whether a pattern, one of several, may make one of the terms; one that keeps no head may. Those that keep the same
+// head have as many terms with that head.
 #[cycle(keep)]
-fn may_stand(sig: &Signature, q: &Flat, ts: &[Flat]) -> bool
+fn may_stand(sig: &Signature, ps: &[Flat], q: &Flat, ts: &[Flat]) -> bool
     requires pattern { Fits sig.now q.now }
     requires targets { AllFit sig.now ts.now }
-    ensures { result ≡ false → IsLostAmong sig.now q.now ts.now }
+    ensures { result ≡ false → IsLostAmong sig.now ps.now q.now ts.now }
 {
     match kept_head(sig, q) {
         None => true,
         Some(g) => {
+            let few = count_headed(ts, g) < count_headed(ps, g);
+            if few {
+                return false;
+            }
             for u in ts {
                 let may = may_keep(sig, g, q, u);
                 if may {
@@ -82,7 +107,8 @@ fn may_stand(sig: &Signature, q: &Flat, ts: &[Flat]) -> bool
 /// Whether heads leave it open that the pattern has the target as an instance.
 ///
 /// An operator without an identity heads each instance of what it heads. So it heads the target as well, and what such
-/// an operator heads among its arguments has an instance among those of the target, which is asked in the same way.
+/// an operator heads among its arguments has an instance among those of the target, which is asked in the same way, and
+/// of these there are as many.
 pub fn may_match(sig: &Signature, pattern: &Flat, target: &Flat) -> bool
     requires pattern { Fits sig.now pattern.now }
     requires target { Fits sig.now target.now }

@@ -1,13 +1,24 @@
 -- Heads of patterns that each instance has too.
-use Rattle.std.specs.Prelude.{◌≡◌, List, All, Some, None}
+use Rattle.std.specs.Prelude.{◌≡◌, ◌⊎◌, ◌<◌, ℕ, ◌+◌, Bool, false, List, [], ◌∷◌, All, Some, None}
 use Rattle.fvn_terms.specs.declared.plain.OpId.{OpId}
 use Rattle.fvn_terms.specs.declared.declarations.Declarations.{Declarations}
 use Rattle.fvn_terms.specs.Signature.{axioms}
 use Rattle.fvn_terms.specs.Equality.{identity}
-use Rattle.fvn_forms.specs.Flat.{FlatTerm}
-use Rattle.fvn_forms.specs.Canon.{inst}
+use Rattle.fvn_forms.specs.Flat.{FlatTerm, fvar, fapp}
+use Rattle.fvn_forms.specs.InOrder.{one_if}
+use Rattle.fvn_forms.specs.Canon.{same_op, inst}
 use Rattle.fvn_flat.specs.Forms.{head_of}
 use Rattle.fvn_match.specs.inner.Candidates.{Values, IsCandidate}
+
+-- whether f heads the form
+abbrev pub is_headed_by : OpId → FlatTerm → Bool
+is_headed_by f (fvar x) = false
+is_headed_by f (fapp g joined ts) = same_op g f
+
+-- how many of the forms f heads
+abbrev pub headed_in : OpId → List FlatTerm → ℕ
+headed_in f [] = 0
+headed_in f (t ∷ ts) = one_if (is_headed_by f t) + headed_in f ts
 
 module _ (d : Declarations) where
   -- f heads the pattern, and has no identity: it heads each instance too
@@ -19,8 +30,8 @@ module _ (d : Declarations) where
   abbrev pub IsLost : FlatTerm → FlatTerm → Type 0
   IsLost p t = (c : Values) → IsCandidate d c → inst d c p ≡ t → ⊥
 
-  -- the pattern keeps its head, and none of the forms is an instance of it
-  pub record IsLostAmong (p : FlatTerm) (ts : List FlatTerm) : Type 0 where
+  -- the pattern keeps its head, and none of the forms is an instance of it, or fewer have that head than patterns
+  pub record IsLostAmong (ps : List FlatTerm) (p : FlatTerm) (ts : List FlatTerm) : Type 0 where
     pub head : OpId
     pub kept : KeepsHead p head
-    pub lost : All (IsLost p) ts
+    pub lost : All (IsLost p) ts ⊎ (headed_in head ts < headed_in head ps)

@@ -1,5 +1,5 @@
 -- Another head, or an argument without an instance; one term more.
-use Rattle.std.proofs.Common.{All, sym, ◌∙◌, subst, arith}
+use Rattle.std.proofs.Common.{All, sym, ◌∙◌, subst, inl, inr, arith}
 use Rattle.std.proofs.lemmas.Bool.{false≢true}
 use Rattle.std.proofs.lemmas.List.{take_all}
 use Rattle.std.proofs.lemmas.List.Elements.{All-nil, All-more}
@@ -7,7 +7,7 @@ use Rattle.fvn_flat.specs.Fits.{Fits}
 use Rattle.fvn_flat.proofs.Instances.{each_at}
 use Rattle.fvn_flat.proofs.Smaller.{places_at}
 use Rattle.fvn_match.specs.inner.Heads.{IsLost}
-use Rattle.fvn_match.proofs.KeptHeads.{args_have_fewer, lost_by_head, lost_by_argument}
+use Rattle.fvn_match.proofs.KeptHeads.{args_have_fewer, fewer, lost_by_head, lost_by_argument}
 use Rattle.fvn_match.proofs.heads.+keep.Goals as goal
 
 pub may_keep-returns-then-not-headed : goal.may_keep-returns-then-not-headed
@@ -44,9 +44,16 @@ may_stand-loop-u-preserved t c =
     let P = IsLost c.args.sig.now c.args.q.now in
     All-more P c.args.ts.now c.loop-u.u-index c.u-item.result c.loop-u-test.true c.loop-u.invariant (subst P c.u-item.is (c.may_keep-may.ensures c.if-may.false))
 
+pub may_stand-returns-then-few : goal.may_stand-returns-then-few
+may_stand-returns-then-few t c = λ e. record {
+  head = c.in-Some.g;
+  kept = rw c.in-Some.is at c.kept_head.ensures;
+  lost = inr (fewer c.count_headed.result c.count_headed-2.result _ _ c.if-few.true c.count_headed.ensures c.count_headed-2.ensures);
+}
+
 pub may_stand-returns-in-Some : goal.may_stand-returns-in-Some
 may_stand-returns-in-Some t c = λ e. record {
   head = c.in-Some.g;
   kept = rw c.in-Some.is at c.kept_head.ensures;
-  lost = subst (All (IsLost c.args.sig.now c.args.q.now)) (take_all c.loop-u.u-index c.args.ts.now c.loop-u-test.false) c.loop-u.invariant;
+  lost = inl (subst (All (IsLost c.args.sig.now c.args.q.now)) (take_all c.loop-u.u-index c.args.ts.now c.loop-u-test.false) c.loop-u.invariant);
 }
