@@ -1,10 +1,9 @@
 -- Heads that each instance of a pattern has too, and arguments whose instances stay where such a head is.
-use Rattle.std.proofs.Common.{◌≡◌, ℕ, ◌+◌, ◌*◌, ◌<◌, ◌≤◌, zero, suc, Bool, true, false, List, [], ◌∷◌, length, map, get_or, Some, None, take, ◌++◌, refl, sym, ap, ◌∙◌, subst, inl, inr, arith}
+use Rattle.std.proofs.Common.{◌≡◌, ℕ, ◌+◌, ◌*◌, ◌<◌, ◌≤◌, zero, suc, Bool, true, false, List, [], ◌∷◌, length, map, get_or, Option, Some, None, ◌++◌, refl, sym, ap, ◌∙◌, subst, inl, inr, arith}
 use Rattle.std.specs.Prelude.{◌⊎◌, All, ltb, if◌then◌else◌}
 use Rattle.std.specs.List.{AllByRecursion}
 use Rattle.std.specs.Ordering.{is_gt}
 use Rattle.std.proofs.lemmas.Bool.{ltb-true}
-use Rattle.std.proofs.lemmas.List.{take_more}
 use Rattle.std.proofs.lemmas.List.Elements.{recursion_from_All}
 use Rattle.fvn_terms.specs.declared.plain.OpId.{OpId}
 use Rattle.fvn_terms.specs.declared.declarations.Axioms.{Axioms}
@@ -14,7 +13,7 @@ use Rattle.fvn_terms.specs.Signature.{axioms}
 use Rattle.fvn_terms.specs.Equality.{IsAssociative, identity}
 use Rattle.fvn_forms.specs.Flat.{FlatTerm, fvar, fapp, fnone, fmore, fpack, funpack}
 use Rattle.fvn_forms.specs.Order.{flat_cmp, same_flat}
-use Rattle.fvn_forms.specs.InOrder.{one_if, count, insert, sort, SameCounts}
+use Rattle.fvn_forms.specs.InOrder.{count, insert, sort, SameCounts}
 use Rattle.fvn_forms.specs.Canon.{same_op, parts, all_parts, canon, inst}
 use Rattle.fvn_forms.specs.Settled.{IsPiece, SettledValues}
 use Rattle.fvn_forms.specs.FitsKinds.{FitsKinds}
@@ -31,7 +30,7 @@ use Rattle.fvn_flat.proofs.Fitting.{args_fit}
 use Rattle.fvn_flat.proofs.Instances.{each_at}
 use Rattle.fvn_match.specs.Matching.{HasNoMatcher}
 use Rattle.fvn_match.specs.inner.Candidates.{Values, IsCandidate}
-use Rattle.fvn_match.specs.inner.Heads.{is_headed_by, headed_in, KeepsHead, IsLost, IsLostAmong}
+use Rattle.fvn_match.specs.inner.Heads.{is_head, headed_in, KeepsHead, IsLost, IsLostAmong}
 use Rattle.fvn_match.proofs.Runs.{holds_of}
 use Rattle.fvn_match.proofs.PairSteps.{not_joined}
 use Rattle.fvn_match.proofs.SumFitting.{parts_are_args}
@@ -62,47 +61,27 @@ count_image g q (t ∷ l) some = go (same_flat q t) refl (λ m. count_image g q 
     go true e rest = let a = count_itself (g q) (map g l) in let here : 1 ≤ count (g q) (g q ∷ map g l) = omega arith in subst (λ u. 1 ≤ count (g q) (g u ∷ map g l)) (same_flat_is q t e) here
     go false e rest = let more : 1 ≤ 0 + count q l = rw e at some in let r = rest (omega arith) in omega arith
 
--- the test tells the head
-pub headed_is : (f : OpId) (t : FlatTerm) → is_headed_by f t ≡ true → head_of t ≡ Some f
-headed_is f (fvar x) e = cc
-headed_is f (fapp g joined ts) e = ap Some (same_op_is g f e)
+-- one where the head is f
+abbrev of_head : OpId → FlatTerm → ℕ
+of_head f t = if is_head f (head_of t) then 1 else 0
 
-pub headed_if : (f : OpId) (t : FlatTerm) → head_of t ≡ Some f → is_headed_by f t ≡ true
-headed_if f (fvar x) e = cc
-headed_if f (fapp g joined ts) e = let q : g ≡ f = cc in ap (λ o. same_op o f) q ∙ same_op_itself f
+head_is : (f : OpId) (o : Option OpId) → is_head f o ≡ true → o ≡ Some f
+head_is f None e = cc
+head_is f (Some g) e = ap Some (same_op_is g f e)
 
-pub not_headed : (f : OpId) (t : FlatTerm) → (head_of t ≡ Some f → ⊥) → is_headed_by f t ≡ false
-not_headed f t n = go (is_headed_by f t) refl
-  where
-    go : (b : Bool) → is_headed_by f t ≡ b → is_headed_by f t ≡ false
-    go true e = absurd (n (headed_is f t e))
-    go false e = e
+head_if : (f : OpId) (o : Option OpId) → o ≡ Some f → is_head f o ≡ true
+head_if f o e = ap (is_head f) e ∙ same_op_itself f
 
 -- how many a head has in a list
 headed_append : (f : OpId) (l m : List FlatTerm) → headed_in f (l ++ m) ≡ headed_in f l + headed_in f m
 headed_append f [] m = refl
 headed_append f (t ∷ l) m = let a = headed_append f l m in omega arith
 
-pub headed_take_more : (f : OpId) (l : List FlatTerm) (i : ℕ) (t : FlatTerm) → i < length l → t ≡ get_or l i t → headed_in f (take (i + 1) l) ≡ headed_in f (take i l) + one_if (is_headed_by f t)
-headed_take_more f l i t within at =
-    let a = ap (headed_in f) (take_more l i t within) in
-    let b = headed_append f (take i l) (get_or l i t ∷ []) in
-    let c = ap (λ u. one_if (is_headed_by f u)) at in
-    omega arith
-
-pub headed_at_most : (f : OpId) (l : List FlatTerm) → headed_in f l ≤ length l
-headed_at_most f [] = omega arith
-headed_at_most f (t ∷ l) = let a = headed_at_most f l in let b = at_most_one (is_headed_by f t) in omega arith
-  where
-    at_most_one : (b : Bool) → one_if b ≤ 1
-    at_most_one true = omega arith
-    at_most_one false = omega arith
-
-headed_insert : (f : OpId) (t : FlatTerm) (l : List FlatTerm) → headed_in f (insert t l) ≡ one_if (is_headed_by f t) + headed_in f l
+headed_insert : (f : OpId) (t : FlatTerm) (l : List FlatTerm) → headed_in f (insert t l) ≡ of_head f t + headed_in f l
 headed_insert f t [] = refl
 headed_insert f t (u ∷ l) = go (is_gt (flat_cmp t u)) refl (headed_insert f t l)
   where
-    go : (a : Bool) → is_gt (flat_cmp t u) ≡ a → headed_in f (insert t l) ≡ one_if (is_headed_by f t) + headed_in f l → headed_in f (insert t (u ∷ l)) ≡ one_if (is_headed_by f t) + headed_in f (u ∷ l)
+    go : (a : Bool) → is_gt (flat_cmp t u) ≡ a → headed_in f (insert t l) ≡ of_head f t + headed_in f l → headed_in f (insert t (u ∷ l)) ≡ of_head f t + headed_in f (u ∷ l)
     go true p ih = rw p (omega arith)
     go false p ih = rw p refl
 
@@ -116,10 +95,10 @@ headed_same f l m h = sym (headed_sort f l) ∙ ap (headed_in f) (sort_same_coun
 -- no fewer in a list of images, and among their summands
 headed_images : (g : OpId) (h : FlatTerm → FlatTerm) (l : List FlatTerm) → AllByRecursion (λ q. head_of q ≡ Some g → head_of (h q) ≡ Some g) l → headed_in g l ≤ headed_in g (map h l)
 headed_images g h [] all = omega arith
-headed_images g h (q ∷ l) all = let a = headed_images g h l all.1 in let b = go (is_headed_by g q) refl in omega arith
+headed_images g h (q ∷ l) all = let a = headed_images g h l all.1 in let b = go (is_head g (head_of q)) refl in omega arith
   where
-    go : (b : Bool) → is_headed_by g q ≡ b → one_if (is_headed_by g q) ≤ one_if (is_headed_by g (h q))
-    go true e = let w = headed_if g (h q) (all.0 (headed_is g q e)) in rw (e, w) (omega arith)
+    go : (b : Bool) → is_head g (head_of q) ≡ b → of_head g q ≤ of_head g (h q)
+    go true e = let w = head_if g (head_of (h q)) (all.0 (head_is g (head_of q) e)) in rw (e, w) (omega arith)
     go false e = rw e (omega arith)
 
 module _ (d : Declarations) where
@@ -128,18 +107,17 @@ module _ (d : Declarations) where
   headed_parts f g h (q ∷ l) all =
       let a = headed_parts f g h l all.1 in
       let b = headed_append g (parts d f (h q)) (all_parts d f (map h l)) in
-      let c = go (is_headed_by g q) refl in
+      let c = go (is_head g (head_of q)) refl in
       omega arith
     where
-      go : (b : Bool) → is_headed_by g q ≡ b → one_if (is_headed_by g q) ≤ headed_in g (parts d f (h q))
+      go : (b : Bool) → is_head g (head_of q) ≡ b → of_head g q ≤ headed_in g (parts d f (h q))
       go true e =
-          let k = all.0 (headed_is g q e) in
-          let w = headed_if g (h q) k.0 in
-          let one : one_if (is_headed_by g (h q)) ≡ 1 = ap one_if w in
+          let k = all.0 (head_is g (head_of q) e) in
+          let one : headed_in g (h q ∷ []) ≡ 1 = ap (λ b. (if b then 1 else 0) + 0) (head_if g (head_of (h q)) k.0) in
           let here = ap (headed_in g) k.1 in
-          let own : one_if (is_headed_by g q) ≡ 1 = ap one_if e in
+          let own : of_head g q ≡ 1 = ap (λ b. if b then 1 else 0) e in
           omega arith
-      go false e = let own : one_if (is_headed_by g q) ≡ 0 = ap one_if e in omega arith
+      go false e = let own : of_head g q ≡ 0 = ap (λ b. if b then 1 else 0) e in omega arith
 
   -- an image that is one summand is counted among the summands of the images
   count_part : (f : OpId) (g : FlatTerm → FlatTerm) (q : FlatTerm) → parts d f (g q) ≡ g q ∷ [] → (l : List FlatTerm) → 1 ≤ count q l → 1 ≤ count (g q) (all_parts d f (map g l))

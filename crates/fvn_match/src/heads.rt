@@ -1,11 +1,11 @@
 //! Whether heads leave it open that a pattern has a term as an instance.
 ghost use Rattle.std.specs.Prelude.{◌≡◌, false, [], ◌∷◌, IsTrue, None, IfSome};
-ghost use Rattle.fvn_forms.specs.InOrder.{one_if};
 ghost use Rattle.fvn_terms.specs.Signature.{axioms};
 ghost use Rattle.fvn_terms.specs.Equality.{identity};
+ghost use Rattle.fvn_flat.specs.Forms.{head_of};
 ghost use Rattle.fvn_flat.specs.Fits.{Fits, AllFit};
 ghost use Rattle.fvn_match.specs.Matching.{HasNoMatcher};
-ghost use Rattle.fvn_match.specs.inner.Heads.{is_headed_by, headed_in, KeepsHead, IsLost, IsLostAmong};
+ghost use Rattle.fvn_match.specs.inner.Heads.{is_head, headed_in, KeepsHead, IsLost, IsLostAmong};
 
 use crate::summands::is_headed;
 use fvn_flat::Flat;
@@ -35,23 +35,27 @@ fn kept_head(sig: &Signature, p: &Flat) -> Option<OpId>
     }
 }
 
-// One where the operator heads the term, else nothing.
-fn one_if_headed(t: &Flat, f: OpId) -> usize
-    ensures { result ≡ one_if (is_headed_by f t.now) }
+// Whether the operator heads the term.
+fn is_head(t: &Flat, f: OpId) -> bool
+    ensures { result ≡ is_head f (head_of t.now) }
 {
-    let headed = is_headed(t, f);
-    if headed { 1 } else { 0 }
+    match t.head() {
+        Some(g) => g == f,
+        None => false,
+    }
 }
 
 // How many of the terms the operator heads.
 fn count_headed(ts: &[Flat], f: OpId) -> usize
     ensures { result ≡ headed_in f ts.now }
 {
-    let mut count = 0;
-    for i in 0..ts.len() {
-        count += one_if_headed(&ts[i], f);
+    let mut n: usize = 0;
+    for t in ts {
+        if is_head(t, f) {
+            n += 1;
+        }
     }
-    count
+    n
 }
 
 // Whether the pattern, which keeps this head, may make the term.

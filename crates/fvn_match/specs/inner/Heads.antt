@@ -1,24 +1,23 @@
 -- Heads of patterns that each instance has too.
-use Rattle.std.specs.Prelude.{◌≡◌, ◌⊎◌, ◌<◌, ℕ, ◌+◌, Bool, false, List, [], ◌∷◌, All, Some, None}
+use Rattle.std.specs.Prelude.{◌≡◌, ◌⊎◌, ◌<◌, ℕ, ◌+◌, Bool, false, if◌then◌else◌, List, [], ◌∷◌, Option, Some, None, All}
 use Rattle.fvn_terms.specs.declared.plain.OpId.{OpId}
 use Rattle.fvn_terms.specs.declared.declarations.Declarations.{Declarations}
 use Rattle.fvn_terms.specs.Signature.{axioms}
 use Rattle.fvn_terms.specs.Equality.{identity}
-use Rattle.fvn_forms.specs.Flat.{FlatTerm, fvar, fapp}
-use Rattle.fvn_forms.specs.InOrder.{one_if}
+use Rattle.fvn_forms.specs.Flat.{FlatTerm}
 use Rattle.fvn_forms.specs.Canon.{same_op, inst}
 use Rattle.fvn_flat.specs.Forms.{head_of}
 use Rattle.fvn_match.specs.inner.Candidates.{Values, IsCandidate}
 
--- whether f heads the form
-abbrev pub is_headed_by : OpId → FlatTerm → Bool
-is_headed_by f (fvar x) = false
-is_headed_by f (fapp g joined ts) = same_op g f
+-- whether the head is f
+abbrev pub is_head : OpId → Option OpId → Bool
+is_head f None = false
+is_head f (Some g) = same_op g f
 
 -- how many of the forms f heads
 abbrev pub headed_in : OpId → List FlatTerm → ℕ
 headed_in f [] = 0
-headed_in f (t ∷ ts) = one_if (is_headed_by f t) + headed_in f ts
+headed_in f (t ∷ ts) = (if is_head f (head_of t) then 1 else 0) + headed_in f ts
 
 module _ (d : Declarations) where
   -- f heads the pattern, and has no identity: it heads each instance too
