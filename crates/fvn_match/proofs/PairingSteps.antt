@@ -1,23 +1,26 @@
 -- Kinds of patterns and of their targets.
-use Rattle.std.proofs.Common.{◌≡◌, ℕ, ◌+◌, ◌<◌, ◌≤◌, List, [], ◌∷◌, length, map, drop, get_or, refl, sym, ap, ◌∙◌, subst}
-use Rattle.std.specs.Prelude.{◌↔◌}
+use Rattle.std.proofs.Common.{◌≡◌, ℕ, ◌+◌, ◌<◌, ◌≤◌, List, [], ◌∷◌, length, map, drop, get_or, true, false, Some, refl, sym, ap, ◌∙◌, subst, arith}
+use Rattle.std.specs.Prelude.{◌↔◌, Contains}
 use Rattle.std.specs.List.{AllZip}
 use Rattle.std.proofs.lemmas.List.{drop_more, drop_all}
+use Rattle.fvn_terms.specs.declared.plain.OpId.{OpId}
 use Rattle.fvn_terms.specs.declared.plain.SortId.{SortId}
+use Rattle.fvn_terms.specs.declared.declarations.Rank.{Rank}
 use Rattle.fvn_terms.specs.declared.declarations.Declarations.{Declarations}
 use Rattle.fvn_terms.specs.Substitution.{Substitution, apply}
-use Rattle.fvn_terms.specs.Signature.{kind, HasKind}
+use Rattle.fvn_terms.specs.Signature.{kind, declared, HasKind}
 use Rattle.fvn_terms.specs.Equality.{BEqual}
 use Rattle.fvn_terms.specs.Sorts.{IsWellSorted}
 use Rattle.fvn_terms.proofs.Equal.{HasKind-apply}
-use Rattle.fvn_forms.specs.Flat.{FlatTerm, plain}
+use Rattle.fvn_forms.specs.Flat.{FlatTerm, fvar, fapp, fnone, fmore, plain}
 use Rattle.fvn_forms.specs.Good.{IsGood}
 use Rattle.fvn_forms.specs.LeastSort.{least_sort}
 use Rattle.fvn_forms.specs.Settled.{Settled}
 use Rattle.fvn_forms.proofs.KindsKept.{b_equal_keeps_kind}
 use Rattle.fvn_forms.proofs.LeastSort.{sort_in-kind}
-use Rattle.fvn_flat.specs.Fits.{AllFit}
-use Rattle.fvn_match.specs.inner.Pairing.{HaveOneKind}
+use Rattle.fvn_flat.specs.Forms.{head_of}
+use Rattle.fvn_flat.specs.Fits.{Fits, AllFit}
+use Rattle.fvn_match.specs.inner.Pairing.{HaveOneKind, HaveOneHead}
 use Rattle.fvn_match.specs.inner.Goals.{IsPair}
 
 -- the first of what is left of two lists
@@ -32,6 +35,30 @@ zip-end R xs ys i h k = subst (λ l. AllZip R l (drop i ys)) (sym (drop_all i xs
 module _ (d : Declarations) (good : IsGood d) where
   kind_is : (t : FlatTerm) → Settled d t → (k : SortId) → HasKind d (plain t) k → kind d (least_sort d t) ≡ k
   kind_is t s k h = sort_in-kind d good (λ x. x.sort) (λ x i. refl) t s k h
+
+  -- a rank of the operator that heads a form gives the form's kind
+  pub record HasRankAt (f : OpId) (k : SortId) : Type 0 where
+    pub rank : Rank
+    pub listed : Contains (declared d f).ranks rank
+    pub gives : kind d rank.result ≡ k
+
+  rank_at : (t : FlatTerm) → Settled d t → (k : SortId) → HasKind d (plain t) k → (f : OpId) → head_of t ≡ Some f → HasRankAt f k
+  rank_at (fvar x) s k h f e = cc
+  rank_at (fapp g true fnone) s k h f e = let two : 2 ≤ 0 = s.0.two_or_more in absurd (omega arith)
+  rank_at (fapp g true (fmore t fnone)) s k h f e = let two : 2 ≤ 1 = s.0.two_or_more in absurd (omega arith)
+  rank_at (fapp g true (fmore t (fmore u us))) s k h f e = let q : g ≡ f = cc in record { rank = h.rank; listed = subst (λ o. Contains (declared d o).ranks h.rank) q h.listed; gives = h.result }
+  rank_at (fapp g false ts) s k h f e = let q : g ≡ f = cc in record { rank = h.rank; listed = subst (λ o. Contains (declared d o).ranks h.rank) q h.listed; gives = h.result }
+
+  -- what one operator heads is of one kind
+  pub one_head_one_kind : (p t : FlatTerm) → Fits d p → Fits d t → HaveOneHead p t → HaveOneKind d p t
+  one_head_one_kind p t fp ft h =
+      let r = rank_at p fp.flat fp.kinded.0 fp.kinded.1 h.operator h.pattern in
+      let q = rank_at t ft.flat ft.kinded.0 ft.kinded.1 h.operator h.target in
+      kind_is p fp.flat fp.kinded.0 fp.kinded.1
+      ∙ sym r.gives
+      ∙ (good.fits.agree h.operator r.rank q.rank r.listed q.listed).1
+      ∙ q.gives
+      ∙ sym (kind_is t ft.flat ft.kinded.0 ft.kinded.1)
 
   pub one_kind_pairs : (ps ts : List FlatTerm) → AllFit d ps → AllFit d ts → AllZip (HaveOneKind d) ps ts → AllZip (IsPair d) ps ts
   one_kind_pairs [] [] fp ft h = tt
