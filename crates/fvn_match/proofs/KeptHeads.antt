@@ -1,9 +1,8 @@
 -- Heads that each instance of a pattern has too, and arguments whose instances stay where such a head is.
 use Rattle.std.proofs.Common.{◌≡◌, ℕ, ◌+◌, ◌*◌, ◌<◌, ◌≤◌, zero, suc, Bool, true, false, List, [], ◌∷◌, length, map, get_or, Option, Some, None, ◌++◌, refl, sym, ap, ◌∙◌, subst, inl, inr, arith}
-use Rattle.std.specs.Prelude.{◌⊎◌, All, ltb, if◌then◌else◌}
+use Rattle.std.specs.Prelude.{◌⊎◌, All, if◌then◌else◌}
 use Rattle.std.specs.List.{AllByRecursion}
 use Rattle.std.specs.Ordering.{is_gt}
-use Rattle.std.proofs.lemmas.Bool.{ltb-true}
 use Rattle.std.proofs.lemmas.List.Elements.{recursion_from_All}
 use Rattle.fvn_terms.specs.declared.plain.OpId.{OpId}
 use Rattle.fvn_terms.specs.declared.declarations.Axioms.{Axioms}
@@ -42,10 +41,6 @@ pub args_have_fewer : (t : FlatTerm) (ts : List FlatTerm) → ts ≡ args_of t �
 args_have_fewer (fvar x) ts e = let q = ap (λ l. places_all (fpack l)) e in omega (arith, q)
 args_have_fewer (fapp f joined us) ts e = let q = ap (λ l. places_all (fpack l)) e in let r = ap places_all (fpack-funpack us) in omega (arith, q, r)
 
--- what the comparison of two counts tells
-pub fewer : (m n j k : ℕ) → ltb m n ≡ true → m ≡ j → n ≡ k → j < k
-fewer m n j k less m_is n_is = let l = ltb-true m n less in omega (arith, l, m_is, n_is)
-
 -- what stands at a place of a list is counted there
 count_at : (l : List FlatTerm) (i : ℕ) (q : FlatTerm) → i < length l → q ≡ get_or l i q → 1 ≤ count q l
 count_at [] i q within at = absurd (omega arith)
@@ -74,7 +69,7 @@ head_if f o e = ap (is_head f) e ∙ same_op_itself f
 
 -- how many a head has in a list
 headed_append : (f : OpId) (l m : List FlatTerm) → headed_in f (l ++ m) ≡ headed_in f l + headed_in f m
-headed_append f [] m = refl
+headed_append f [] m = omega arith
 headed_append f (t ∷ l) m = let a = headed_append f l m in omega arith
 
 headed_insert : (f : OpId) (t : FlatTerm) (l : List FlatTerm) → headed_in f (insert t l) ≡ of_head f t + headed_in f l

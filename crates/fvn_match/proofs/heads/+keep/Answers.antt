@@ -7,7 +7,7 @@ use Rattle.fvn_flat.specs.Fits.{Fits}
 use Rattle.fvn_flat.proofs.Instances.{each_at}
 use Rattle.fvn_flat.proofs.Smaller.{places_at}
 use Rattle.fvn_match.specs.inner.Heads.{IsLost}
-use Rattle.fvn_match.proofs.KeptHeads.{args_have_fewer, fewer, lost_by_head, lost_by_argument}
+use Rattle.fvn_match.proofs.KeptHeads.{args_have_fewer, lost_by_head, lost_by_argument}
 use Rattle.fvn_match.proofs.heads.+keep.Goals as goal
 
 pub may_keep-returns-then-not-headed : goal.may_keep-returns-then-not-headed
@@ -48,11 +48,11 @@ pub may_stand-returns-then-few : goal.may_stand-returns-then-few
 may_stand-returns-then-few t c = λ e. record {
   head = c.in-Some.g;
   kept = rw c.in-Some.is at c.kept_head.ensures;
-  lost = inr (fewer c.count_headed.result c.count_headed-2.result _ _ c.if-few.true c.count_headed.ensures c.count_headed-2.ensures);
+  lost = inr (omega (arith, c.if-few.true, c.count_headed.ensures, c.count_headed-in-Some.ensures));
 }
 
-pub may_stand-returns-in-Some : goal.may_stand-returns-in-Some
-may_stand-returns-in-Some t c = λ e. record {
+pub may_stand-returns-after-loop-u : goal.may_stand-returns-after-loop-u
+may_stand-returns-after-loop-u t c = λ e. record {
   head = c.in-Some.g;
   kept = rw c.in-Some.is at c.kept_head.ensures;
   lost = inl (subst (All (IsLost c.args.sig.now c.args.q.now)) (take_all c.loop-u.u-index c.args.ts.now c.loop-u-test.false) c.loop-u.invariant);
