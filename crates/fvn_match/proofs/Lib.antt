@@ -22,3 +22,4 @@ mod OnePiece
 mod Rooms
 mod Matchers
 mod TwoLists
+mod KeptHeads

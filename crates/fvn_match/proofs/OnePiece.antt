@@ -24,7 +24,7 @@ use Rattle.fvn_match.proofs.SumSteps.{as_many}
 use Rattle.fvn_match.proofs.SumFitting.{some_args, parts_are_args}
 
 module _ (d : Declarations) (f : OpId) where
-  few_unjoined : (g : OpId) (ts : FlatTerms) → length (parts d f (fapp g false ts)) ≤ 1
+  pub few_unjoined : (g : OpId) (ts : FlatTerms) → length (parts d f (fapp g false ts)) ≤ 1
   few_unjoined g fnone = go (is_identity (identity (axioms d f)) g)
     where
       go : (b : Bool) → length (if b then [] else fconstant g ∷ []) ≤ 1
@@ -71,7 +71,7 @@ module _ (d : Declarations) (f : OpId) where
           go (fapp o true ts) q z n = z.0.two_or_more
           go (fapp o false ts) q z n = let w : o ≡ g = cc in absurd (n (unjoined_none d g (axioms d g) (funpack ts) assoc (subst (λ a. FitsUnjoined d (axioms d a) (funpack ts)) w z.0)))
 
-      many : 2 ≤ length (parts d g (inst d c p))
+      pub many : 2 ≤ length (parts d g (inst d c p))
       many =
           let a = same_length (parts d g (inst d c p)) (all_parts d g (map (inst d c) (parts d g p))) (parts_inst d c settled g assoc p s) in
           let b = as_many d g c settled (ap identity e) (parts d g p) in

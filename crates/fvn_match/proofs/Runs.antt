@@ -169,7 +169,7 @@ counting_more ts pieces left (u ∷ us) k t c r head =
         omega arith
 
 -- what holds of each of a list holds of what stands among it
-holds_of : (P : FlatTerm → Type 0) (q : FlatTerm) (ts : List FlatTerm) → AllByRecursion P ts → 1 ≤ count q ts → P q
+pub holds_of : (P : FlatTerm → Type 0) (q : FlatTerm) (ts : List FlatTerm) → AllByRecursion P ts → 1 ≤ count q ts → P q
 holds_of P q [] h some = absurd (omega arith)
 holds_of P q (t ∷ ts) h some = go (same_flat q t) refl (λ k. holds_of P q ts h.1 k)
   where

@@ -8,3 +8,4 @@ pub mod Candidates
 pub mod Goals
 pub mod Known
 pub mod Searching
+pub mod Heads

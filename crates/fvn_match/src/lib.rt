@@ -4,6 +4,7 @@
 mod answers;
 mod choices;
 mod goals;
+mod heads;
 mod known;
 mod matching;
 mod pairing;
@@ -12,4 +13,5 @@ mod summands;
 mod variables;
 mod wholes;
 
+pub use heads::may_match;
 pub use matching::{matches, matches_both};

@@ -10,3 +10,4 @@ mod Bound
 mod InsideOut
 mod Seen
 mod Beginning
+mod Trying

@@ -3,12 +3,12 @@ ghost use Rattle.std.specs.Prelude.{◌≡◌, Some, IfOk};
 ghost use Rattle.fvn_flat.specs.Forms.{head_of};
 ghost use Rattle.fvn_flat.specs.Fits.{Fits};
 ghost use Rattle.fvn_theory.specs.Equations.{equations_of};
-ghost use Rattle.fvn_rewrite.specs.inner.Trying.{AllSidesFit, TriesAs};
+ghost use Rattle.fvn_rewrite.specs.inner.Trying.{SidesFit, AllSidesFit, MatchAs, TriesAs};
 ghost use Rattle.fvn_rewrite.specs.inner.Walking.{RootAs};
 ghost use Rattle.fvn_rewrite.specs.Usable.{AreUsable};
 
-use fvn_flat::Flat;
-use fvn_match::matches;
+use fvn_flat::{Flat, Subst};
+use fvn_match::{matches, may_match};
 use fvn_rewrite_coherence::rules_are_coherent;
 use fvn_rewrite_laws::rules_are_lawful;
 use fvn_rewrite_rules::{Rule, Rules};
@@ -16,6 +16,25 @@ use fvn_signature::Signature;
 use fvn_terms::{NoMemory, OpId};
 use std::alloc::Global;
 use std::slice::from_ref;
+
+// What makes the left side of a rule the form. Where heads tell that there is no such thing, nothing is matched.
+fn rule_match(
+    alloc: Global,
+    sig: &Signature,
+    rule: &Rule,
+    t: &Flat,
+) -> Result<Option<Subst>, NoMemory>
+    requires sides { SidesFit sig.now rule.now }
+    requires term { Fits sig.now t.now }
+    ensures { IfOk result (MatchAs sig.now t.now rule.now) }
+{
+    let open = may_match(sig, &rule.left, t);
+    if !open {
+        return Ok(None);
+    }
+    let found = matches(alloc, sig, from_ref(&rule.left), from_ref(t))?;
+    Ok(found)
+}
 
 // What the first of the rules that matches makes of the form; nothing where none does.
 fn first_match(
@@ -29,7 +48,7 @@ fn first_match(
     ensures { IfOk result (TriesAs sig.now rules.now t.now) }
 {
     for rule in rules {
-        let found = matches(alloc, sig, from_ref(&rule.left), from_ref(t))?;
+        let found = rule_match(alloc, sig, rule, t)?;
         match found {
             Some(s) => {
                 let u = s.apply(alloc, sig, &rule.right)?;

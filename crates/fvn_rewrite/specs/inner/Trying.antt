@@ -6,7 +6,8 @@ use Rattle.fvn_terms.specs.Equality.{BEqual}
 use Rattle.fvn_terms.specs.Sorts.{IsWellSorted}
 use Rattle.fvn_forms.specs.Flat.{FlatTerm, plain}
 use Rattle.fvn_flat.specs.Fits.{Fits}
-use Rattle.fvn_match.specs.Matching.{HasNoMatcher}
+use Rattle.fvn_flat.specs.Bindings.{Bindings, BindingsFit}
+use Rattle.fvn_match.specs.Matching.{HasNoMatcher, Matches}
 use Rattle.fvn_rewrite_rules.specs.declared.rule.Rule.{Rule}
 
 module _ (d : Declarations) where
@@ -22,6 +23,16 @@ module _ (d : Declarations) where
   -- the left side of the rule has not the form as an instance
   abbrev pub HasNoMatch : FlatTerm → Rule → Type 0
   HasNoMatch t rule = HasNoMatcher d (rule.left ∷ []) (t ∷ [])
+
+  -- the pairs make the left side of the rule the form, modulo the axioms, and fit
+  pub record IsMatch (t : FlatTerm) (rule : Rule) (s : Bindings) : Type 0 where
+    pub matches : Matches d (rule.left ∷ []) (t ∷ []) s
+    pub fit : BindingsFit d s
+
+  -- what comes of trying one rule
+  abbrev pub MatchAs : FlatTerm → Rule → Option Bindings → Type 0
+  MatchAs t rule None = HasNoMatch t rule
+  MatchAs t rule (Some s) = IsMatch t rule s
 
   -- that of no rule has
   abbrev pub NoneMatches : FlatTerm → List Rule → Type 0
