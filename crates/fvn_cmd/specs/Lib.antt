@@ -1,5 +1,6 @@
 -- The words of the contracts of this crate.
 pub mod Statuses
+pub mod Ends
 pub mod Texts
 pub mod Asking
 pub mod Refusing

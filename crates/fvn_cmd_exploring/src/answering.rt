@@ -7,8 +7,7 @@ ghost use Rattle.fvn_cmd_exploring.specs.Answers.{CanBeTold, IsAnswerAfter};
 use crate::ends::{end_told, loss_after};
 use crate::search::Search;
 use fvn_answer::{Line, answer_text};
-use fvn_cmd::{Answer, Text};
-use fvn_cmd_unify::status_of_end;
+use fvn_cmd::{Answer, Text, status_of_end};
 use fvn_exploring::ExploreEnd;
 use fvn_terms::NoMemory;
 

@@ -17,7 +17,7 @@ use Rattle.fvn_vunify.specs.Solved.{StopsAtPairs}
 use Rattle.fvn_cmd.specs.declared.status.Status.{Status}
 use Rattle.fvn_cmd.specs.declared.status.Status.TheVariants.{Nothing, Ended}
 use Rattle.fvn_answer.specs.declared.end.End.TheVariants.{Complete as Told}
-use Rattle.fvn_cmd_unify.specs.Ends.{status_of_end}
+use Rattle.fvn_cmd.specs.Ends.{status_of_end}
 use Rattle.fvn_cmd_words.specs.declared.reach.Reach.{Reach}
 use Rattle.fvn_cmd_exploring.specs.Searches.{setting_of}
 use Rattle.fvn_cmd_exploring.specs.Ends.{end_told}

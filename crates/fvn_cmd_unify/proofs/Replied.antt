@@ -22,7 +22,7 @@ use Rattle.fvn_cmd.specs.declared.status.Status.TheVariants.{ModuleRefused, Prob
 use Rattle.fvn_cmd.specs.declared.answer.Answer.{Answer}
 use Rattle.fvn_cmd.specs.Texts.{bytes_of}
 use Rattle.fvn_cmd.specs.Refusing.{IsRefusalLine, IsProblemRefusalLine}
-use Rattle.fvn_cmd_unify.specs.Ends.{status_of_end}
+use Rattle.fvn_cmd.specs.Ends.{status_of_end}
 use Rattle.fvn_cmd_unify.specs.Solutions.{IsEndOfSearch}
 use Rattle.fvn_cmd_unify.specs.Replies.{IsAnswer, IsUnifyReply}
 use Rattle.fvn_cmd_unify.specs.inner.Told.{end_told, AreLinesOfBindings}

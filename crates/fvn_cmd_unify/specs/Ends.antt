@@ -1,27 +1,13 @@
--- How an answer to `unify` ends, with which status, and why.
-use Rattle.std.specs.Prelude.{zero, suc, ◌≡◌, List, length}
+-- How an answer to `unify` ends, and why.
+use Rattle.std.specs.Prelude.{◌≡◌, List, length}
 use Rattle.fvn_base.specs.declared.limits.TheConstants.{TERM_SYMBOLS, UNIFIERS}
 use Rattle.fvn_terms.specs.Substitution.{Substitution}
 use Rattle.fvn_problems.specs.declared.problem.Problem.{Problem}
 use Rattle.fvn_module.specs.Contents.{Contents}
 use Rattle.fvn_answer.specs.declared.end.End.{End}
 use Rattle.fvn_answer.specs.declared.end.End.TheVariants.{Complete, Levels, Variants, Steps, Size, Basis, Unifiers, Sorts}
-use Rattle.fvn_cmd.specs.declared.status.Status.{Status}
-use Rattle.fvn_cmd.specs.declared.status.Status.TheVariants.{Solved, Nothing, Ended}
 use Rattle.fvn_cmd.specs.Causes.{HasNoBasis, IsTooLarge, HasTooMany, MeetsNoBound}
 use Rattle.fvn_cmd_unify.specs.Asked.{AreFlattened}
-
--- the status that goes with an end
-abbrev pub status_of_end : End → Status
-status_of_end (Complete zero) = Nothing
-status_of_end (Complete (suc n)) = Solved
-status_of_end (Levels n) = Ended
-status_of_end (Variants n) = Ended
-status_of_end (Steps n t) = Ended
-status_of_end (Size n) = Ended
-status_of_end (Basis f) = Ended
-status_of_end (Unifiers n) = Ended
-status_of_end (Sorts n) = Ended
 
 module _ (m : Contents) (p : Problem) where
   -- why an answer with these unifiers ends so, where the problem in flat form is given to the solver

@@ -7,7 +7,7 @@ use Rattle.fvn_module_loading.specs.Loading.{IsLoaded}
 use Rattle.fvn_cmd.specs.declared.status.Status.{Status}
 use Rattle.fvn_cmd.specs.Asking.{Word, problem_word}
 use Rattle.fvn_cmd.specs.Refusing.{IsReply}
-use Rattle.fvn_cmd_unify.specs.Ends.{status_of_end}
+use Rattle.fvn_cmd.specs.Ends.{status_of_end}
 use Rattle.fvn_cmd_unify.specs.Solutions.{Found, IsSolution, Shows}
 
 -- this status with this text answers the problem in the module

@@ -8,7 +8,6 @@ mod pairs;
 mod replying;
 mod searching;
 
-pub use ends::status_of_end;
 pub use laws::{lines_denote_unifiers, shown_lines_keep_the_promise};
 pub use lines::lines_of;
 pub use pairs::flattened;

@@ -6,13 +6,13 @@ ghost use Rattle.fvn_problems.specs.Problems.{AreOfOneKind, HasVariables};
 ghost use Rattle.fvn_cmd_unify.specs.Replies.{IsAnswer, IsUnifyReply};
 ghost use Rattle.fvn_cmd_unify.specs.inner.Steps.{IsSolved, RepliesIn};
 
-use crate::ends::{end_told, status_of_end};
+use crate::ends::end_told;
 use crate::lines::lines_of;
 use crate::pairs::flattened;
 use fvn_answer::{answer_text, equal_lines_are_instances};
 use fvn_axunify::{AxiomUnify, SolveLimits};
 use fvn_base::limits::{TERM_SYMBOLS, UNIFIERS};
-use fvn_cmd::{Answer, Text, refuse_module, refuse_problem};
+use fvn_cmd::{Answer, Text, refuse_module, refuse_problem, status_of_end};
 use fvn_flat::{
     Solved, answers_to_flattened_pairs, flattened_pairs_are_given, flattened_pairs_have_one_answer,
 };

@@ -27,7 +27,7 @@ use Rattle.fvn_cmd.specs.declared.status.Status.{Status}
 use Rattle.fvn_cmd.specs.declared.status.Status.TheVariants.{ProblemRefused}
 use Rattle.fvn_cmd.specs.Refusing.{IsProblemRefusalLine}
 use Rattle.fvn_cmd.proofs.Replying.{in_module, refused_words}
-use Rattle.fvn_cmd_unify.specs.Ends.{status_of_end}
+use Rattle.fvn_cmd.specs.Ends.{status_of_end}
 use Rattle.fvn_cmd_words.specs.declared.reach.Reach.{Reach}
 use Rattle.fvn_cmd_exploring.specs.Searches.{IsSearched}
 use Rattle.fvn_cmd_variants.specs.Asked.{flattened}

@@ -7,7 +7,7 @@ use Rattle.fvn_module_loading.specs.Loading.{IsLoaded}
 use Rattle.fvn_cmd.specs.declared.status.Status.{Status}
 use Rattle.fvn_cmd.specs.Asking.{Word, term_word}
 use Rattle.fvn_cmd.specs.Refusing.{IsReply}
-use Rattle.fvn_cmd_unify.specs.Ends.{status_of_end}
+use Rattle.fvn_cmd.specs.Ends.{status_of_end}
 use Rattle.fvn_cmd_words.specs.declared.reach.Reach.{Reach}
 use Rattle.fvn_cmd_variants.specs.Solutions.{Found, end_of, IsSolution, Shows}
 

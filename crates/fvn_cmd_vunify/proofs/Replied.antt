@@ -38,7 +38,7 @@ use Rattle.fvn_cmd.specs.declared.status.Status.TheVariants.{ProblemRefused}
 use Rattle.fvn_cmd.specs.Refusing.{IsProblemRefusalLine}
 use Rattle.fvn_cmd.proofs.Replying.{in_module, refused_words}
 use Rattle.fvn_cmd_unify.specs.Asked.{pairs_of, IsInstanceOf}
-use Rattle.fvn_cmd_unify.specs.Ends.{status_of_end}
+use Rattle.fvn_cmd.specs.Ends.{status_of_end}
 use Rattle.fvn_cmd_unify.specs.Replies.{unify_words}
 use Rattle.fvn_cmd_unify.specs.Solutions.{IsLineOf}
 use Rattle.fvn_cmd_unify.proofs.Asking.{problem-asked, problem-room}

@@ -11,7 +11,7 @@ use Rattle.fvn_answer.specs.declared.end.End.TheVariants.{Complete, Levels, Vari
 use Rattle.fvn_cmd.specs.declared.status.Status.{Status}
 use Rattle.fvn_cmd.specs.declared.status.Status.TheVariants.{Solved}
 use Rattle.fvn_cmd.specs.Texts.{Is}
-use Rattle.fvn_cmd_unify.specs.Ends.{status_of_end}
+use Rattle.fvn_cmd.specs.Ends.{status_of_end}
 use Rattle.fvn_cmd_work.specs.Replies.{ShowsEnd, IsCount}
 
 solved_end : (e : End) → status_of_end e ≡ Solved → (n : ℕ) × (e ≡ Complete n)

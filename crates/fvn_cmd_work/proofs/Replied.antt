@@ -10,7 +10,7 @@ use Rattle.fvn_module_loading.specs.Loading.{IsLoaded}
 use Rattle.fvn_answer.specs.Answers.{IsAnswerText}
 use Rattle.fvn_answer.specs.declared.end.End.{End}
 use Rattle.fvn_cmd.specs.declared.status.Status.{Status}
-use Rattle.fvn_cmd_unify.specs.Ends.{status_of_end}
+use Rattle.fvn_cmd.specs.Ends.{status_of_end}
 use Rattle.fvn_cmd_unify.specs.Solutions.{IsEndOfSearch}
 use Rattle.fvn_cmd_work.specs.Made.{work_module, work_problem}
 use Rattle.fvn_cmd_work.specs.Replies.{IsCount, IsWorkAnswer}

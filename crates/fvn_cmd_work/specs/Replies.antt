@@ -6,7 +6,7 @@ use Rattle.fvn_answer.specs.Answers.{IsAnswerText}
 use Rattle.fvn_answer.specs.declared.end.End.{End}
 use Rattle.fvn_cmd.specs.declared.status.Status.{Status}
 use Rattle.fvn_cmd.specs.Asking.{Word}
-use Rattle.fvn_cmd_unify.specs.Ends.{status_of_end}
+use Rattle.fvn_cmd.specs.Ends.{status_of_end}
 use Rattle.fvn_cmd_unify.specs.Solutions.{Found, IsSolution}
 use Rattle.fvn_cmd_unify.specs.Replies.{unify_words, IsToBeUnified}
 use Rattle.fvn_cmd_work.specs.Made.{work_module, work_problem}

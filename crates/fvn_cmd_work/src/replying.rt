@@ -9,8 +9,8 @@ ghost use Rattle.fvn_cmd_work.specs.Replies.{IsCount, IsWorkAnswer};
 
 use crate::texts::{module_text, problem_text};
 use fvn_answer::answer_text;
-use fvn_cmd::{Answer, Text};
-use fvn_cmd_unify::{end_of_search, status_of_end};
+use fvn_cmd::{Answer, Text, status_of_end};
+use fvn_cmd_unify::end_of_search;
 use fvn_module::Module;
 use fvn_module_loading::load;
 use fvn_problems::{Problem, read_problem};

@@ -9,7 +9,8 @@ use Rattle.fvn_cmd.specs.declared.status.Status.TheVariants.{Solved}
 use Rattle.fvn_cmd_check.specs.Checks.{told_lines}
 use Rattle.fvn_cmd_terminates.specs.Weighings.{status_of_weighing, IsWeighed, IsWeighingLine}
 use Rattle.fvn_cmd_verify.specs.Verdicts.{status_of_verdict, IsVerdictText, IsVerdictOn}
-use Rattle.fvn_cmd_unify.specs.Ends.{status_of_end, StaysWithinBounds}
+use Rattle.fvn_cmd.specs.Ends.{status_of_end}
+use Rattle.fvn_cmd_unify.specs.Ends.{StaysWithinBounds}
 use Rattle.fvn_cmd_unify.specs.Solutions.{Found, IsWhole, IsSolution, Shows}
 use Rattle.fvn_cmd_variants.specs.Solutions as of_terms
 use Rattle.fvn_cmd_vunify.specs.Solutions as modulo

@@ -3,7 +3,7 @@ use Rattle.std.proofs.Common.{◌≡◌, length, sym, ap, ◌∙◌, subst}
 use Rattle.std.proofs.lemmas.List.{length-map}
 use Rattle.fvn_answer.specs.Answers.{FitsEnd, IsAnswerText}
 use Rattle.fvn_answer.specs.Writing.{bytes_of as lines_in}
-use Rattle.fvn_cmd_unify.specs.Ends.{status_of_end}
+use Rattle.fvn_cmd.specs.Ends.{status_of_end}
 use Rattle.fvn_cmd_exploring.specs.Ends.{end_told}
 use Rattle.fvn_cmd_exploring.proofs.answering.answer_after.Goals as goal
 
