@@ -16,12 +16,10 @@ use Rattle.fvn_combine_choices.specs.Plans.{AreOfOneKind}
 use Rattle.fvn_combine_admissible.specs.Listed.{systems_of}
 use Rattle.fvn_combine_complete.specs.Laws.{ReadingsTell}
 use Rattle.fvn_combine_bounds.specs.Laws.{SortedLeavesCover}
-use Rattle.fvn_combine_leaves.specs.Bases.{AreBases}
 use Rattle.fvn_combine_candidates.specs.Laws.{BasesMakeSystems, CoveringChoicesAreListed}
 use Rattle.fvn_combine_candidates.specs.Sharing.{AreSharedClasses}
 use Rattle.fvn_combine_candidates.specs.Tags.{tag_counts}
 use Rattle.fvn_combine_candidates.specs.declared.sharing.SharedClass.{SharedClass}
-use Rattle.fvn_combine_inferring.specs.Inferred.{TellHeads}
 use Rattle.fvn_combine_inferring.specs.Laws.{SortedUnifiersGoWith}
 use Rattle.fvn_combine_inferring.specs.declared.heads.Known.{Known}
 use Rattle.fvn_combine_triangular.specs.Ready.{IsReady}
@@ -53,19 +51,6 @@ module _ (k : Combining) (is : IsCombining k) (s : State) where
   module _ (r : Reading) (known : Known) (bases : List (List Solution)) (shared : List SharedClass) (tags : Tagging) (ready : IsReady k.declarations k.given k.first k.table s) (reading : IsReading k.declarations k.table (class_of s) r) (are_shared : AreSharedClasses k.declarations k.table (class_of s) k.sorted shared) where
     abbrev opened_leaf : Opened
     opened_leaf = record { reading = r; known = known; bases = bases; shared = shared; tags = tags; turning = None }
-
-    pub is_opened : IsLeaf k.declarations k.table s → TellHeads k.declarations k.table s known.sorted known.heads.items → known.sorted ≡ k.sorted → AreBases r.sums bases → tags.counts ≡ tag_counts shared → IsOpened k s opened_leaf
-    is_opened leaf heads sorted are counts = record {
-      ready = ready;
-      leaf = leaf;
-      reading = reading;
-      known = heads;
-      sorted = sorted;
-      bases = are;
-      shared = are_shared;
-      counts = counts;
-      turning = λ v e. cc;
-    }
 
     pub all_to_come : CoveringChoicesAreListed → tags.counts ≡ tag_counts shared → ((options : List ℕ) → AllZip IsOption tags.counts options → PendingTags tags options) → (u : Substitution) (c : Choice) → IsSortedCovering k s r bases u c → IsCoveredToCome k s opened_leaf u
     all_to_come law counts pending u c h =
