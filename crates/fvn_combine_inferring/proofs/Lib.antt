@@ -8,3 +8,4 @@ mod Told
 mod Marks
 mod SortedValues
 mod HeadsTold
+mod Added

@@ -7,6 +7,7 @@ ghost use Rattle.fvn_combine_inferring.specs.inner.Bounds.{HaveTwoHeads, IsItOr}
 
 use crate::bounds::are_apart;
 use crate::heads::Known;
+use crate::summed::is_no_unit;
 use fvn_combine_nodes::{State, Table};
 use fvn_signature::Signature;
 use fvn_terms::OpId;
@@ -26,7 +27,8 @@ fn have_two_heads(heads: &[Option<OpId>], k: usize, l: usize) -> bool
     }
 }
 
-/// Whether the classes of two nodes have different values for sure: they are kept apart, or have two heads.
+/// Whether the classes of two nodes have different values for sure: they are kept apart, or have two heads, or the second
+/// is that of the identity of an operator under which the first has a summand.
 pub fn differ(
     sig: &Signature,
     table: &Table,
@@ -42,12 +44,13 @@ pub fn differ(
     requires right { j < length table.now.nodes }
     ensures { IsTrue result → HaveTwoValues sig.now table.now state.now known.now.sorted i j }
 {
-    let _sig = sig;
-    let _table = table;
     if are_apart(state, i, j) {
         return true;
     }
-    have_two_heads(known.heads.as_slice(), state.class_of(i), state.class_of(j))
+    if have_two_heads(known.heads.as_slice(), state.class_of(i), state.class_of(j)) {
+        return true;
+    }
+    is_no_unit(sig, table, state, known, i, j)
 }
 
 // A node of the list whose class is not known to differ from that of node k.

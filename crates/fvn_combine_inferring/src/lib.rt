@@ -13,6 +13,7 @@ mod meeting;
 mod rows;
 mod rules;
 mod sorts;
+mod summed;
 
 pub use differing::differ;
 pub use heads::{Known, known_of};
