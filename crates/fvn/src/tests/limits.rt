@@ -47,8 +47,8 @@ verify | a =? a | {} ==> yes
 terminates | g : 1 1 ==> terminates";
 
 /// Modules, and under each commands with words at a limit and one beyond, and what is printed of these, or how many lines
-/// before the last one. Parentheses have no limit. The limits are: symbols of a problem and of a term, 400; of a bound term and of what is made,
-/// 1,000; minimal solutions, 24, and the numbers in them; unifiers, 4,095; steps, levels and variants; bytes of a module.
+/// before the last one. Parentheses have no limit. The limits are: symbols of a problem and of a term, 400; of a bound
+/// term and of what is made, 1,000; minimal solutions, 24, and numbers in them over 65,535; steps, levels and variants; bytes of a module.
 const BLOCKS: &str = "\
 fmod M is sort S . op a : -> S . op g : S -> S . eq ~20000 (~g(a)~20000 )~ = a [variant] . endfm
 check ==> module M sorts 1 kinds 1 operators 2 equations 1 | sorts kept
@@ -80,20 +80,13 @@ unify | X =? _+_(V:S~23 ,V@:S~) ==> 1 lines | complete 1
 unify | X =? _+_(V:S~24 ,V@:S~) ==> bound basis _+_
 vunify | X =? _+_(V:S~23 ,V@:S~) ==> 1 lines | complete 1
 vunify | X =? _+_(V:S~24 ,V@:S~) ==> bound basis _+_
-unify | _+_(X~66 ,X~) =? _+_(Y~65 ,Y~) /\\ _+_(Y~66 ,Y~) =? _+_(Z~65 ,Z~) ==> bound size 1000
-unify | _+_(X~66 ,X~) =? _+_(Y~65 ,Y~) /\\ _+_(Y~66 ,Y~) =? _+_(Z~65 ,Z~) /\\ _+_(Z~66 ,Z~) =? _+_(U~65 ,U~) ==> bound basis _+_
-
-fmod SETS is sorts N S . subsort N < S . ops c ~11 c@ ~: -> N . op mt : -> S . op _;_ : S S -> S [assoc comm id: mt] . op _;_ : N S -> N [ditto] . endfm
-unify | _;_(X:N,Y:S) =? _;_(c~11 ,c@~) ==> 4095 lines | complete 4095
-unify | _;_(X:S,Y:S) =? _;_(c~11 ,c@~) ==> 4096 lines | bound unifiers 4096
-vunify | _;_(X:N,Y:S) =? _;_(c~11 ,c@~) ==> 4095 lines | complete 4095
-vunify | _;_(X:S,Y:S) =? _;_(c~11 ,c@~) ==> 4096 lines | bound unifiers 4096
+unify | _+_(X~40 ,X~) =? _+_(Y~39 ,Y~) /\\ _+_(Y~40 ,Y~) =? _+_(Z~39 ,Z~) ==> bound basis _+_
 
 fmod DOUBLE is sort S . op a : -> S . ops f g : S -> S . op p : S S -> S . var X : S . eq f(X) = p(X,X) [variant] . endfm
 variants | g(f(f(f(~123 g(~a~123 )~)))) ==> 1 lines | complete 1
 variants | g(g(f(f(f(~123 g(~a~123 )~))))) ==> bound size 1000
-vunify | g(f(f(f(~123 g(~a~123 )~)))) =? a ==> complete 0
-vunify | g(g(f(f(f(~123 g(~a~123 )~))))) =? a ==> bound size 1000
+vunify | f(f(f(~123 g(~a~123 )~))) =? a ==> complete 0
+vunify | g(f(f(f(~123 g(~a~123 )~)))) =? a ==> bound size 1000
 verify | g(f(f(f(~123 g(~a~123 )~)))) =? a | {} ==> no 1
 verify | g(g(f(f(f(~123 g(~a~123 )~))))) =? a | {} ==> bound size 1000
 
@@ -120,6 +113,13 @@ unify | p(X,b) =? p(a,Y) ==> {X:S --> a, Y:S --> b} | complete 1
 
 fmod FREE is sort S . ops a b : -> S . op p : S S -> S . vars X Y : S . endfm~1048500  ~
 unify | p(X,b) =? p(a,Y) ==> module 14";
+
+/// The same for the number of unifiers, 4,095 and one more: each of twelve elements is in one of two sets, of which one may
+/// not be empty, or both may.
+const MANY: &str = "\
+fmod SETS is sorts N S . subsort N < S . ops c ~11 c@ ~: -> N . op mt : -> S . op _;_ : S S -> S [assoc comm id: mt] . op _;_ : N S -> N [ditto] . endfm
+unify | _;_(X:N,Y:S) =? _;_(c~11 ,c@~) ==> 4095 lines | complete 4095
+unify | _;_(X:S,Y:S) =? _;_(c~11 ,c@~) ==> 4096 lines | bound unifiers 4096";
 
 fn number(text: &str) -> usize {
     text.parse::<usize>().unwrap_or(0)
@@ -324,4 +324,9 @@ fn questions_at_a_limit_are_answered(rt: HostRuntime) -> Result<(), NoMemory> {
         block_told(&rt, rt.alloc(), block)?;
     }
     Ok(())
+}
+
+#[test]
+fn unifiers_at_the_limit_are_told(rt: HostRuntime) -> Result<(), NoMemory> {
+    block_told(&rt, rt.alloc(), MANY)
 }
