@@ -113,8 +113,8 @@ lower_rows-returns t c =
     (finds_for_all d xs P c.args.rows.now c.loop-row.row-index c.loop-row-test.false c.loop-row.all.items c.loop-row.invariant)
 
 -- arguments, but for the largest
-pub narrowed-returns-then-large-len : goal.narrowed-returns-then-large-len
-narrowed-returns-then-large-len t c =
+pub narrowed-returns-then-large-ts : goal.narrowed-returns-then-large-ts
+narrowed-returns-then-large-ts t c =
     let d = c.args.self.now.sig.now in
     let xs = c.args.self.now.vars.now in
     narrow_start d xs c.args.way.now (AreUnder d xs c.args.ts.now c.args.args.now) c.requires.row c.in_ok-rows.rows.items c.in_ok-rows.ensures
@@ -323,8 +323,8 @@ lower_pair-returns t c =
     (subst (λ l. Finds d xs (λ m. HasAbove d l m × IsSumUnder d xs c.args.f c.args.front.now c.in-Some.pair.0 m) c.in_ok-all.all.items) c.as_slice-2.ensures.value c.in_ok-all.ensures)
 
 -- the first summands, before a large one
-pub narrowed_sum-returns-then-large : goal.narrowed_sum-returns-then-large
-narrowed_sum-returns-then-large t c =
+pub narrowed_sum-returns-then-not-large : goal.narrowed_sum-returns-then-not-large
+narrowed_sum-returns-then-not-large t c =
     let d = c.args.self.now.sig.now in
     let xs = c.args.self.now.vars.now in
     narrow_start d xs c.args.way.now (IsSumUnder d xs c.args.f c.args.ts.now c.args.s) c.requires.row c.in_ok-rows.rows.items c.in_ok-rows.ensures
