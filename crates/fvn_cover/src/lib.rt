@@ -20,5 +20,5 @@ pub use laws::{
 };
 pub use marking::{WORKERS, marks};
 pub use pieces::{piece_count, piece_start};
-pub use pruning::{prune, prune_kept, with_member};
+pub use pruning::{prune, prune_folded, prune_kept, with_member};
 pub use variant::{Variant, all_shared};
