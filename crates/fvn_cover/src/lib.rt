@@ -3,6 +3,7 @@
 
 mod covering;
 mod gate;
+mod heads;
 mod keeping;
 mod laws;
 mod marking;

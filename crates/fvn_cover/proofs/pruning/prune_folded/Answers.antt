@@ -1,19 +1,34 @@
 -- one more member, which none before it covers
-use Rattle.std.proofs.Common.{◌≡◌, List, [], ◌∷◌, ◌++◌, length, take, sym, ◌∙◌, subst}
+use Rattle.std.proofs.Common.{◌≡◌, List, [], ◌∷◌, ◌++◌, length, take, refl, sym, ◌∙◌, subst, arith}
 use Rattle.std.specs.Prelude.{All, Contains}
 use Rattle.std.proofs.lemmas.List.{map-id}
-use Rattle.std.proofs.lemmas.List.Elements.{All-take, All-weaker, Contains-append_left, Contains-append_right}
+use Rattle.std.proofs.lemmas.List.Elements.{All-nil, All-take, All-weaker, Contains-append_left, Contains-append_right}
 use Rattle.std.proofs.lemmas.Iterator.Adapters.{YieldsList-from_vec}
 use Rattle.std.proofs.lemmas.Iterator.Consumers.{YieldsList-turn, YieldsList-so_far}
 use Rattle.fvn_base.proofs.Membership.{contains_here}
 use Rattle.fvn_cover.specs.declared.variant.Variant.{Variant}
 use Rattle.fvn_cover.specs.Covering.{AreAlike, IsFlatVariant}
+use Rattle.fvn_cover.specs.Pruning.{IsCoveredBySome, IsPruned}
 use Rattle.fvn_cover.specs.Adding.{IsAdded}
 use Rattle.fvn_cover.proofs.Leftovers.{all_at}
 use Rattle.fvn_cover.proofs.Additions.{added_all}
 use Rattle.fvn_cover.proofs.Folded.{next_is_free}
 use Rattle.fvn_cover.proofs.Prunings.{alike_sym, pruned_more}
 use Rattle.fvn_cover.proofs.pruning.prune_folded.Goals as goal
+
+pub loop-v-init : goal.loop-v-init
+loop-v-init c =
+    let d = c.args.sig.now in
+    let Mine : Variant → Type 0 = λ k. IsFlatVariant d k × All (AreAlike k) c.args.list.items in
+    let none : IsPruned d [] [] = record {
+      choices = [];
+      whole = refl;
+      sublist = refl;
+      apart = λ i j e l m. absurd (omega (arith, m));
+      dropped = All-nil (IsCoveredBySome d []);
+      earlier = λ i j e l m. absurd (omega (arith, m));
+    } in
+    subst (λ l. IsPruned d [] l × All Mine l × All (Contains []) l) (sym c.new-kept.ensures.items) (none, All-nil Mine, All-nil (Contains []))
 
 pub with_uncovered-requires-clause-free : goal.with_uncovered-requires-clause-free
 with_uncovered-requires-clause-free c =
