@@ -77,11 +77,11 @@ module _ (g : Setting) (drawn : Problem → Substitution → Type 0) (start : Li
     ]
 
     -- what is kept with the next level is flat and alike, and none covers a later one
-    pub kept_with_next : (d : Declarations) → g.declarations ≡ d → AreKept d (r.kept ++ next)
-    kept_with_next d e = subst (λ d. AreKept d (r.kept ++ next)) e record {
+    pub kept_with_next : (d : Declarations) (limits : Limits) → g.declarations ≡ d → AreKept d (r.kept ++ next)
+    kept_with_next d limits e = subst (λ d. AreKept d (r.kept ++ next)) e record {
       flat = all_members (IsFlatVariant g.declarations) (r.kept ++ next) (λ v m. (member v m).flat);
       alike = all_alike g r.kept explored.ready (r.kept ++ next) (r.kept ++ next) like like;
-      folded = next_folded g drawn start depth r explored next end h;
+      folded = next_folded g drawn start limits depth r explored next end h;
     }
 
     -- a longer run, within the limits
