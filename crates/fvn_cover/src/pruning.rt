@@ -1,5 +1,5 @@
 //! Lists of variants without those that another one covers.
-ghost use Rattle.std.specs.Prelude.{◌≡◌, ◌↔◌, IsTrue, IfOk, All, Any};
+ghost use Rattle.std.specs.Prelude.{◌≡◌, ◌↔◌, IsTrue, IfOk, All, AllPairs, Any};
 ghost use Rattle.fvn_cover.specs.Covering.{CoversVariant, AreAlike, IsFlatVariant};
 ghost use Rattle.fvn_cover.specs.Pruning.{IsCoveredBySome, IsPruned};
 ghost use Rattle.fvn_cover.specs.Adding.{IsLeft, IsAdded};
@@ -87,6 +87,23 @@ fn uncovered(
     Ok(left)
 }
 
+// The list with the variant, which none of its members covers, and without those that it covers.
+fn with_uncovered(
+    alloc: Global,
+    sig: &Signature,
+    list: Vec<Kept>,
+    v: Kept,
+) -> Result<Vec<Kept>, NoMemory>
+    requires flat { IsFlatVariant sig.now v × All (IsFlatVariant sig.now) list.items }
+    requires alike { All (λ k. AreAlike k v) list.items }
+    requires free { IsCoveredBySome sig.now list.items v → ⊥ }
+    ensures { IfOk result (λ after. IsAdded sig.now list.items v after.items) }
+{
+    let mut after = uncovered(alloc, sig, list, &v)?;
+    after.push(v)?;
+    Ok(after)
+}
+
 /// The list with the variant, if none of its members covers it, and then without those that it covers.
 ///
 /// The members are not copied, and moved only where it covers one.
@@ -103,8 +120,7 @@ pub fn with_member(
     if is_covered(alloc, sig, list.as_slice(), &v)? {
         return Ok(list);
     }
-    let mut after = uncovered(alloc, sig, list, &v)?;
-    after.push(v)?;
+    let after = with_uncovered(alloc, sig, list, v)?;
     Ok(after)
 }
 
@@ -131,6 +147,26 @@ pub fn prune_kept(alloc: Global, sig: &Signature, list: Vec<Kept>) -> Result<Vec
     let mut kept = Vec::new(alloc);
     for v in list {
         kept = with_member(alloc, sig, kept, v)?;
+    }
+    let vs = variants(alloc, kept)?;
+    Ok(vs)
+}
+
+/// The same of a list of which no member covers a later one: each is compared with those before it in one direction.
+pub fn prune_folded(
+    alloc: Global,
+    sig: &Signature,
+    list: Vec<Kept>,
+) -> Result<Vec<Variant>, NoMemory>
+    requires flat { All (IsFlatVariant sig.now) list.items }
+    requires alike { All (λ a. All (AreAlike a) list.items) list.items }
+    requires folded { AllPairs (λ a b. CoversVariant sig.now a b → ⊥) list.items }
+    ensures pruned { IfOk result (λ kept. IsPruned sig.now list.items kept.items) }
+{
+    covering_of_variants_is_a_preorder();
+    let mut kept = Vec::new(alloc);
+    for v in list {
+        kept = with_uncovered(alloc, sig, kept, v)?;
     }
     let vs = variants(alloc, kept)?;
     Ok(vs)

@@ -11,10 +11,25 @@ use Rattle.fvn_flat.specs.Fits.{AllFit}
 use Rattle.fvn_flat.specs.Solving.{substitution, problem_of, Binds, IsGiven, AreUnifiers, AreBindings, AreNumbered, AreApart, AreComplete, HasCause}
 use Rattle.fvn_vunify.specs.Sides.{two_by_two}
 use Rattle.fvn_vunify.specs.inner.Ends.{first_end}
-use Rattle.fvn_vunify.specs.inner.Attempts.{AreTested, IsAttempt}
+use Rattle.fvn_vunify.specs.inner.Attempts.{SomeNeverMeet, AreTested, IsAttempt}
+use Rattle.fvn_vunify.proofs.Apart.{attempted_none}
 use Rattle.fvn_vunify.proofs.Posing.{is_given}
 use Rattle.fvn_vunify.proofs.Attempted.{attempted}
 use Rattle.fvn_vunify.proofs.solving.solve_variant.Goals as goal
+
+pub some_never_meet-apart-requires : goal.some_never_meet-apart-requires
+some_never_meet-apart-requires g c =
+    subst (AllFit c.args.sig.now) (sym c.as_slice.ensures) (rw (← c.requires.sig) at c.requires.solvable.flat.terms)
+
+pub returns-then-apart : goal.returns-then-apart
+returns-then-apart g c =
+    let s = g.E.Expander.setting c.args.expander.now in
+    let may = g.E.Expander.drawn c.args.expander.now in
+    let v = c.args.v.now in
+    let apart : SomeNeverMeet s.declarations v.terms =
+    subst (λ d. SomeNeverMeet d v.terms) c.requires.sig
+    (subst (SomeNeverMeet c.args.sig.now) c.as_slice.ensures (c.some_never_meet-apart.ensures c.if-apart.true)) in
+    attempted_none s may c.args.vars.now v apart c.new-then-apart.result.items c.new-then-apart.ensures.items
 
 pub pairs_under-requires-clause-names : goal.pairs_under-requires-clause-names
 pairs_under-requires-clause-names g c = c.in_ok-names.ensures.fits c.args.sig.now
