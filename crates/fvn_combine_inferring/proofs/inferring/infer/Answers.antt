@@ -18,3 +18,9 @@ loop-sums-preserved c =
       | inl e ↦ subst told (sym e) c.loop-sums.invariant
       | inr e ↦ subst told (sym e) c.in_ok-told.ensures
     ]
+
+pub infer_of-requires-clause-insides : goal.infer_of-requires-clause-insides
+infer_of-requires-clause-insides c = ?
+
+pub returns-then-is_circular : goal.returns-then-is_circular
+returns-then-is_circular c = ?

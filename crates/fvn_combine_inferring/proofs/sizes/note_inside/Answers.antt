@@ -1,0 +1,19 @@
+-- Two pairs more.
+use Rattle.std.proofs.Common.{List, sym, ap, ◌∙◌, subst, ◌++◌, ◌∷◌, []}
+use Rattle.fvn_combine_nodes.specs.States.{class_of}
+use Rattle.fvn_combine_inferring.specs.inner.Sizes.{AreInside}
+use Rattle.fvn_combine_inferring.specs.declared.sizes.Inside.{Inside}
+use Rattle.fvn_combine_inferring.proofs.Values.{split_within}
+use Rattle.fvn_combine_inferring.proofs.Sizing.{both_said}
+use Rattle.fvn_combine_inferring.proofs.sizes.note_inside.Goals as goal
+
+pub have_both-proper-requires-clause-first : goal.have_both-proper-requires-clause-first
+have_both-proper-requires-clause-first c =
+    (split_within c.args.sig.now c.args.table.now c.args.state.now c.requires.closed c.recall_well_made.ensures c.args.f (class_of c.args.state.now c.args.i) c.in-Some.p c.in-Some.ensures).0
+
+pub have_both-proper-requires-clause-second : goal.have_both-proper-requires-clause-second
+have_both-proper-requires-clause-second c =
+    (split_within c.args.sig.now c.args.table.now c.args.state.now c.requires.closed c.recall_well_made.ensures c.args.f (class_of c.args.state.now c.args.i) c.in-Some.p c.in-Some.ensures).1
+
+pub returns-in_ok-push-2-in-Some : goal.returns-in_ok-push-2-in-Some
+returns-in_ok-push-2-in-Some c = ?
