@@ -8,8 +8,8 @@ pub has_known_summand-requires-clause-within : goal.has_known_summand-requires-c
 has_known_summand-requires-clause-within c =
     (split_within c.args.sig.now c.args.table.now c.args.state.now c.requires.closed c.recall_well_made.ensures c.args.f (class_of c.args.state.now c.args.i) c.in-Some.p c.in-Some.ensures).0
 
-pub has_known_summand-2-requires-clause-within : goal.has_known_summand-2-requires-clause-within
-has_known_summand-2-requires-clause-within c =
+pub has_known_summand-requires-in-Some-clause-within : goal.has_known_summand-requires-in-Some-clause-within
+has_known_summand-requires-in-Some-clause-within c =
     (split_within c.args.sig.now c.args.table.now c.args.state.now c.requires.closed c.recall_well_made.ensures c.args.f (class_of c.args.state.now c.args.i) c.in-Some.p c.in-Some.ensures).1
 
 pub returns-then-has_known_summand : goal.returns-then-has_known_summand
@@ -17,7 +17,7 @@ returns-then-has_known_summand c t =
     first_some c.args.sig.now c.args.table.now c.recall_well_made.ensures c.requires.sums c.args.state.now c.requires.closed c.args.f c.requires.associative c.args.i c.requires.within c.in-Some.p c.in-Some.ensures c.args.known.now.sorted
     (c.has_known_summand.ensures c.if-has_known_summand.true)
 
-pub returns-in-Some : goal.returns-in-Some
-returns-in-Some c t =
+pub returns-else-has_known_summand : goal.returns-else-has_known_summand
+returns-else-has_known_summand c t =
     second_some c.args.sig.now c.args.table.now c.recall_well_made.ensures c.requires.sums c.args.state.now c.requires.closed c.args.f c.requires.associative c.args.i c.requires.within c.in-Some.p c.in-Some.ensures c.args.known.now.sorted
-    (c.has_known_summand-2.ensures t)
+    (c.has_known_summand-in-Some.ensures t)
