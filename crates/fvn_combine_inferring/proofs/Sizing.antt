@@ -1,14 +1,14 @@
 -- Sizes of values by their summands.
-use Rattle.std.proofs.Common.{◌≡◌, ◌≢◌, ℕ, zero, suc, ◌+◌, ◌<◌, ◌≤◌, true, false, List, [], ◌∷◌, ◌++◌, length, get_or, refl, sym, ap, ◌∙◌, subst, inl, inr, arith, All, Contains}
+use Rattle.std.proofs.Common.{◌≡◌, ℕ, zero, suc, ◌+◌, ◌<◌, ◌≤◌, true, false, List, [], ◌∷◌, ◌++◌, length, refl, sym, ap, ◌∙◌, subst, inl, inr, arith}
 use Rattle.std.specs.Prelude.{Bool, ◌||◌}
-use Rattle.std.proofs.lemmas.Bool.{cases_Bool, eqb-true}
-use Rattle.std.proofs.lemmas.List.Elements.{All-nil, All-push}
+use Rattle.std.proofs.lemmas.Bool.{cases_Bool}
+use Rattle.std.proofs.lemmas.List.Elements.{All-push}
 use Rattle.fvn_terms.specs.declared.plain.OpId.{OpId}
 use Rattle.fvn_terms.specs.declared.declarations.Declarations.{Declarations}
 use Rattle.fvn_terms.specs.Signature.{axioms}
 use Rattle.fvn_terms.specs.Equality.{IsAssociative}
 use Rattle.fvn_forms.specs.Flat.{FlatTerm, fconstant, plain, symbols}
-use Rattle.fvn_forms.specs.InOrder.{one_if, count, sort, SameCounts}
+use Rattle.fvn_forms.specs.InOrder.{one_if, count, SameCounts}
 use Rattle.fvn_forms.specs.Canon.{parts, sum}
 use Rattle.fvn_forms.specs.Order.{same_flat}
 use Rattle.fvn_forms.specs.Settled.{Settled}
@@ -22,10 +22,9 @@ use Rattle.fvn_combine_nodes.specs.States.{IsClosed, class_of}
 use Rattle.fvn_combine_nodes.specs.declared.state.State.{State}
 use Rattle.fvn_combine_choices.specs.Tables.{HasSums}
 use Rattle.fvn_combine_complete.specs.Obeying.{GoWith}
-use Rattle.fvn_combine_inferring.specs.Inferred.{HasNoValues, HaveOneValue, HaveTwoValues}
-use Rattle.fvn_combine_inferring.specs.Sorted.{GoWithSorts}
-use Rattle.fvn_combine_inferring.specs.Rows.{summands, times, many, HasSummand, HasFewSummands, IsSummand, IsAmong}
-use Rattle.fvn_combine_inferring.specs.inner.Bounds.{HaveSummands, IsItOr}
+use Rattle.fvn_combine_inferring.specs.Inferred.{HasNoValues, HaveTwoValues}
+use Rattle.fvn_combine_inferring.specs.Rows.{summands, times, many, HasFewSummands}
+use Rattle.fvn_combine_inferring.specs.inner.Bounds.{HaveSummands}
 use Rattle.fvn_combine_inferring.specs.inner.Sizes.{IsLess, IsSaid, AreSaid, size, AreInside, IsNoSummand}
 use Rattle.fvn_combine_inferring.specs.inner.Splits.{IsSplit}
 use Rattle.fvn_combine_inferring.specs.declared.sizes.Inside.{Inside}
@@ -191,3 +190,16 @@ module _ (d : Declarations) (t : NodeTable) (s : State) (sorted : Bool) (f : OpI
 -- no values go with a state in which a class is smaller than itself
 pub circular_out : (d : Declarations) (t : NodeTable) (s : State) (sorted : Bool) (list : List Inside) → AreInside d t s sorted list → ((w : ℕ → ℕ) → AreSaid w list → ⊥) → HasNoValues d t s sorted
 circular_out d t s sorted list inside none values go = none (size s values) (inside values go)
+
+-- two pairs of which the second begins where the first ends make one
+pub chained : (w : ℕ → ℕ) (first second : Inside) (proper : Bool) → second.small ≡ first.large → proper ≡ (first.proper || second.proper) → IsSaid w first → IsSaid w second
+    → IsSaid w (record { small = first.small; large = second.large; proper = proper })
+chained w first second proper meets is a b =
+    subst (λ p. IsLess p (w first.small) (w second.large)) (sym is)
+    (less_chain first.proper second.proper (w first.small) (w first.large) (w second.large) a (subst (λ k. IsLess second.proper (w k) (w second.large)) meets b))
+
+-- a proper pair says so of its classes
+pub said : (w : ℕ → ℕ) (pair : Inside) (k l : ℕ) → pair.proper ≡ true → pair.small ≡ k → pair.large ≡ l → IsSaid w pair → w k < w l
+said w pair k l proper small large h =
+    let a = subst (λ p. IsLess p (w pair.small) (w pair.large)) proper h in
+    subst (λ n. w n < w l) small (subst (λ n. w pair.small < w n) large a)

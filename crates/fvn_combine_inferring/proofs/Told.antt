@@ -236,7 +236,7 @@ module _ (d : Declarations) (t : NodeTable) (s : State) (sorted : Bool) where
 
         out : same_flat (values (class_of s k)) (values (class_of s l)) ≡ false → (y : ℕ) → IsItOr (IsNoSummand d t s sorted f k) l y → times d s f values (values (class_of s k)) y ≡ 0
         out e y (inl is) = ap (times d s f values (values (class_of s k))) is ∙ other_times values go (values (class_of s k)) l (few values go) (differs e)
-        out e y (inr no) = no values go
+        out e y (inr absent) = absent values go
 
         at : (b : Bool) → same_flat (values (class_of s k)) (values (class_of s l)) ≡ b → values (class_of s k) ≡ values (class_of s l)
         at true e = same_flat_is (values (class_of s k)) (values (class_of s l)) e

@@ -2,11 +2,11 @@
 use Rattle.std.proofs.Common.{sym, subst, Contains}
 use Rattle.std.proofs.lemmas.List.Elements.{Contains-get_or, All-nil}
 use Rattle.fvn_combine_leaves.proofs.ReadOfState.{sum_operator}
-use Rattle.fvn_combine_inferring.specs.inner.Sizes.{IsSaid, size}
+use Rattle.fvn_combine_inferring.specs.inner.Sizes.{IsSaid, AreSaid, size}
 use Rattle.fvn_combine_inferring.proofs.sizes.addends.Goals as goal
 
 pub loop-sums-init : goal.loop-sums-init
-loop-sums-init c values go = All-nil (IsSaid (size c.args.state.now values))
+loop-sums-init c values go = subst (AreSaid (size c.args.state.now values)) (sym c.new-list.ensures.items) (All-nil (IsSaid (size c.args.state.now values)))
 
 pub note_insides-requires-clause-associative : goal.note_insides-requires-clause-associative
 note_insides-requires-clause-associative c =
