@@ -33,13 +33,13 @@ unit_associates d t has f n (j, p, l, at, same) =
 
 module _ (d : Declarations) (t : NodeTable) (s : State) (f : OpId) (values : ℕ → FlatTerm) (go_with : GoWith d t s values) where
   -- node i has the summands of a and those of b
-  abbrev Adds : (i a b : ℕ) → Type 0
+  abbrev pub Adds : (i a b : ℕ) → Type 0
   Adds i a b = (q : FlatTerm) → times d s f values q i ≡ times d s f values q a + times d s f values q b
 
   turned : (i a b : ℕ) → Adds i a b → Adds i b a
   turned i a b h q = let e = h q in omega (arith, e)
 
-  many_adds : (i a b : ℕ) → Adds i a b → many d s f values i ≡ many d s f values a + many d s f values b
+  pub many_adds : (i a b : ℕ) → Adds i a b → many d s f values i ≡ many d s f values a + many d s f values b
   many_adds i a b h =
       let m = many d s f values in
       let x = sum_by-cons m i [] in

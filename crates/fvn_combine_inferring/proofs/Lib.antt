@@ -9,3 +9,4 @@ mod Marks
 mod SortedValues
 mod HeadsTold
 mod Added
+mod Sizing

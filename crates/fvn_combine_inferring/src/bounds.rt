@@ -145,7 +145,7 @@ pub(crate) fn has_summand(
 }
 
 // Whether the value of the class of node k has one summand at most.
-fn has_few_summands(
+pub(crate) fn has_few_summands(
     sig: &Signature,
     table: &Table,
     state: &State,

@@ -12,6 +12,7 @@ mod laws;
 mod meeting;
 mod rows;
 mod rules;
+mod sizes;
 mod sorts;
 mod summed;
 

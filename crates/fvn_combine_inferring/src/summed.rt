@@ -91,6 +91,28 @@ pub(crate) fn is_summed(
     false
 }
 
+// Whether the value of the class of node k has a summand for sure, as what is known of it or of a class that it adds says.
+pub(crate) fn has_some_summand(
+    sig: &Signature,
+    table: &Table,
+    state: &State,
+    known: &Known,
+    f: OpId,
+    k: usize,
+) -> bool
+    requires associative { IsAssociative (axioms sig.now f) }
+    requires closed { IsClosed sig.now table.now state.now }
+    requires sums { HasSums sig.now table.now }
+    requires heads { TellHeads sig.now table.now state.now known.now.sorted known.now.heads.items }
+    requires within { k < length table.now.nodes }
+    ensures { IsTrue result → HasSummand sig.now table.now state.now known.now.sorted f k }
+{
+    if has_known_summand(sig, table, state, known, f, k) {
+        return true;
+    }
+    is_summed(sig, table, state, known, f, k)
+}
+
 // Whether node j is in the class of an operator's identity, and node i has a summand under the operator for sure.
 fn is_unlike(
     sig: &Signature,

@@ -30,6 +30,11 @@ module _ (d : Declarations) (t : NodeTable) (s : State) (sorted : Bool) where
     pub some : HasSummand d t s sorted f k
     pub other : HaveTwoValues d t s sorted k i
 
+  -- the classes of both nodes have a summand
+  pub record HaveSummands (f : OpId) (a b : ℕ) : Type 0 where
+    pub first : HasSummand d t s sorted f a
+    pub second : HasSummand d t s sorted f b
+
 -- different operators are noted of classes k and l
 abbrev pub HaveTwoHeads : List (Option OpId) → ℕ → ℕ → Type 0
 HaveTwoHeads heads k l = (f : OpId) × (g : OpId) × (slice_index_or heads k None ≡ Some f) × (slice_index_or heads l None ≡ Some g) × (f ≢ g)
