@@ -13,14 +13,19 @@ use fvn_terms::NoMemory;
 use std::alloc::Global;
 
 // Whether some member of the list covers the variant.
-fn is_covered(alloc: Global, sig: &Signature, list: &[Kept], v: &Kept) -> Result<bool, NoMemory>
+pub(crate) fn is_covered(
+    alloc: Global,
+    sig: &Signature,
+    list: &[Kept],
+    v: &Kept,
+) -> Result<bool, NoMemory>
     requires flat { IsFlatVariant sig.now v.now × All (IsFlatVariant sig.now) list.now }
     requires alike { All (λ k. AreAlike k v.now) list.now }
     ensures { IfOk result (λ r. IsTrue r ↔ IsCoveredBySome sig.now list.now v.now) }
 {
     let out = Unkept::of(sig);
     for k in list {
-        if k.shown().is_covering(alloc, sig, out, &v.shown())? {
+        if k.is_covering(alloc, sig, out, v)? {
             return Ok(true);
         }
     }
@@ -35,7 +40,7 @@ fn covers_some(alloc: Global, sig: &Signature, list: &[Kept], v: &Kept) -> Resul
 {
     let out = Unkept::of(sig);
     for k in list {
-        if v.shown().is_covering(alloc, sig, out, &k.shown())? {
+        if v.is_covering(alloc, sig, out, k)? {
             return Ok(true);
         }
     }
@@ -56,7 +61,7 @@ fn without_covered(
     let mut left = Vec::new(alloc);
     let out = Unkept::of(sig);
     for k in list {
-        if !v.shown().is_covering(alloc, sig, out, &k.shown())? {
+        if !v.is_covering(alloc, sig, out, &k)? {
             left.push(k)?;
         }
     }

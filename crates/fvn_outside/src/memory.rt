@@ -170,6 +170,8 @@ impl Sink for MemSink {
             (λ n. Appends (Some self.old.written) (Some self.new.written) (take n bytes.now)) }
         ensures stuck { IfOk result
             (λ n. n ≡ 0 → 0 < length bytes.now → Rose self.old.calls.faults self.new.calls.faults) }
+        ensures uncounted { IfOk result
+            (λ n. 0 < n → self.new.calls.faults ≡ self.old.calls.faults) }
         ensures never_falls { self.old.calls.faults ≤ self.new.calls.faults }
 
         // Exactly the listed calls fail; the others take as many bytes as they can. At a full sink

@@ -19,11 +19,13 @@ pub trait Sink {
         ensures ok { IfOk result
             (λ n. Appends (written self.old) (written self.new) (take n bytes.now)) }
 
-        // A failing write adds nothing; it is counted, and so is one that takes none of the bytes.
+        // A failing write adds nothing; it is counted, and so is one that takes none of the bytes. No
+        // other is.
         ensures unwritten { OnErr result (written self.new ≡ written self.old) }
         ensures fault { OnErr result (Rose (faults self.old) (faults self.new)) }
         ensures stuck { IfOk result
             (λ n. n ≡ 0 → 0 < length bytes.now → Rose (faults self.old) (faults self.new)) }
+        ensures uncounted { IfOk result (λ n. 0 < n → faults self.new ≡ faults self.old) }
         ensures never_falls { faults self.old ≤ faults self.new };
 }
 
@@ -32,6 +34,7 @@ pub fn write_all<K: Sink>(sink: &mut K, bytes: &[u8]) -> Result<(), WriteFailed>
     ensures ok { OnOk result (Appends (K.written sink.old) (K.written sink.new) bytes.now) }
     ensures part { OnErr result (AppendsPart (K.written sink.old) (K.written sink.new) bytes.now) }
     ensures fault { OnErr result (Rose (K.faults sink.old) (K.faults sink.new)) }
+    ensures uncounted { OnOk result (K.faults sink.new ≡ K.faults sink.old) }
     ensures no_fault { NeverFails K.faults → IsOk result }
     ensures never_falls { K.faults sink.old ≤ K.faults sink.new }
 {

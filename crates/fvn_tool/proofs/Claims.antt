@@ -156,8 +156,8 @@ work_answering words source number is_work s t (is_replied c b h n f r) =
 pub report : VerdictsAreExact → AnswersAreExact → ExploredAnswersAreExact → QuestionsAreDetermined → (run : Run) → Leaves (IsGivenOutcome run.words run.source) run.status run.sink → (run.status ≡ ReadFault → HasFailed run.source) → (run.status ≡ WriteFault → HasFailed run.sink) →
     (AreNoCommand run.words → (run.status ≡ Usage) ⊎ (run.status ≡ WriteFault)) →
     (ReadNothing run.words → run.source.after ≡ run.source.before) → (IsSilent run.status → run.sink.after ≡ run.sink.before) →
-    (run.source.faults_before < run.source.faults_after → run.status ≡ ReadFault) → IsReport run
-report verdicts exact explored questions run given read write always unread unwritten failed =
+    (run.source.faults_before < run.source.faults_after → run.status ≡ ReadFault) → (run.sink.faults_before < run.sink.faults_after → run.status ≡ WriteFault) → IsReport run
+report verdicts exact explored questions run given read write always unread unwritten failed_read failed_write =
     let h = Leaves-weaker (IsGivenOutcome run.words run.source) (IsOutcome run.words run.source) (given_outcome verdicts exact explored run.words run.source) run.status run.sink given in
     record {
       outcome = h;
@@ -165,7 +165,8 @@ report verdicts exact explored questions run given read write always unread unwr
       unwritten = unwritten;
       read_fault = read;
       write_fault = write;
-      failed_read = failed;
+      failed_read = failed_read;
+      failed_write = failed_write;
       written = λ no_read no_write. without_fault run.status (λ e. no_read (read e)) (λ e. no_write (write e));
       usage = refuses_words run h always;
       made = λ number is_work spoken.

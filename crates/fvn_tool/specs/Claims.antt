@@ -35,11 +35,12 @@ pub record IsReport (run : Run) : Type 0 where
   -- only for a command that reads is anything read, and without a text nothing is written
   pub unread : ReadNothing run.words → run.source.after ≡ run.source.before
   pub unwritten : IsSilent run.status → run.sink.after ≡ run.sink.before
-  -- faults come only from the outside, and where the source counted one, the status says so
+  -- faults come only from the outside, and where the source or the sink counted one, the status says so
   pub read_fault : run.status ≡ ReadFault → HasFailed run.source
   pub write_fault : run.status ≡ WriteFault → HasFailed run.sink
   pub failed_read : run.source.faults_before < run.source.faults_after → run.status ≡ ReadFault
-  -- where nothing outside fails, a text is written whole, or memory was refused
+  pub failed_write : run.sink.faults_before < run.sink.faults_after → run.status ≡ WriteFault
+  -- where nothing outside fails, a text is written whole, or the status says that memory was refused
   pub written : (HasFailed run.source → ⊥) → (HasFailed run.sink → ⊥) →
       (run.status ≡ NoMemory) ⊎ IsSpoken run.status
   -- words that are no command

@@ -85,6 +85,7 @@ fn conclude<R: Threads + Sync, G: Gate, S: Source, K: Sink>(
     ensures write_fault { result ≡ Status.WriteFault →
         Rose (K.faults out.old) (K.faults out.new) }
     ensures no_write_fault { NeverFails K.faults → result ≢ Status.WriteFault }
+    ensures failed_write { K.faults out.old < K.faults out.new → result ≡ Status.WriteFault }
 {
     match respond(rt, gate, alloc, words, source) {
         Err(status) => status,

@@ -5,7 +5,7 @@ use Rattle.fvn_forms.specs.Flat.{FlatTerm}
 use Rattle.fvn_combine_inferring.specs.Sorted.{GoWithSorts}
 use Rattle.fvn_combine_inferring.specs.Rows.{many}
 use Rattle.fvn_combine_inferring.proofs.HeadsTold.{two_summands}
-use Rattle.fvn_combine_inferring.proofs.heads.is_large.Goals as goal
+use Rattle.fvn_combine_inferring.proofs.heads.adds_two.Goals as goal
 
 pub returns-in-Some : goal.returns-in-Some
 returns-in-Some c t =
