@@ -1,9 +1,9 @@
 -- Two heads, two arguments side by side, and two sums.
-use Rattle.std.proofs.Common.{◌≡◌, ◌<◌, All, length, Some, sym, ap, ◌∙◌, subst, inl, inr, arith}
+use Rattle.std.proofs.Common.{◌≡◌, ◌<◌, ◌≤◌, ◌∷◌, [], ◌⊎◌, All, Contains, length, Some, sym, ap, ◌∙◌, subst, inl, inr, arith}
 use Rattle.std.proofs.lemmas.List.{take_all}
 use Rattle.std.proofs.lemmas.List.Elements.{All-more, Contains-get_or}
 use Rattle.fvn_terms.proofs.AxiomWords.{free_is}
-use Rattle.fvn_terms.specs.Equality.{is_free}
+use Rattle.fvn_terms.specs.Equality.{is_free, IsAssociative}
 use Rattle.fvn_terms.specs.Signature.{axioms}
 use Rattle.fvn_flat.specs.Fits.{Fits}
 use Rattle.fvn_flat.proofs.Instances.{each_at}
@@ -74,8 +74,8 @@ some_unmet-returns-then-is_unmet t c e = record {
 pub exceeds-some_unmet-requires : goal.exceeds-some_unmet-requires
 exceeds-some_unmet-requires t c = (omega arith, (c.requires.first, c.requires.second))
 
-pub exceeds-returns-then-lt : goal.exceeds-returns-then-lt
-exceeds-returns-then-lt t c e = record { firm = c.are_firm.ensures c.if-not-are_firm.false; over = inl (omega (arith, c.if-lt.true, c.len.ensures, c.len-2.ensures)) }
+pub exceeds-returns-then-us-ts : goal.exceeds-returns-then-us-ts
+exceeds-returns-then-us-ts t c e = record { firm = c.are_firm.ensures c.if-not-are_firm.false; over = inl (omega (arith, c.if-us-ts.true)) }
 
 pub exceeds-returns : goal.exceeds-returns
 exceeds-returns t c e = record { firm = c.are_firm.ensures c.if-not-are_firm.false; over = inr (c.some_unmet.ensures e) }
@@ -86,7 +86,7 @@ are_twice-clash-requires t c =
     let ts = c.args.ts.now in
     let a = c.index-ts-0.result in
     let b = c.index-ts-1.result in
-    let two : length ts ≡ 2 = omega (arith, c.len.ensures, c.if-ne.false) in (
+    let two : length ts ≡ 2 = omega (arith, c.if-ts-ne2.false) in (
       omega (arith, two_fall ts a b (two_of ts a b two c.index-ts-0.is c.index-ts-1.is)),
       (each_at (Fits d) ts c.requires.first 0 a (omega (arith, two)) c.index-ts-0.is, each_at (Fits d) ts c.requires.first 1 b (omega (arith, two)) c.index-ts-1.is),
     )
@@ -94,21 +94,44 @@ are_twice-clash-requires t c =
 pub are_twice-returns : goal.are_twice-returns
 are_twice-returns t c e =
     let ts = c.args.ts.now in
-    let us = c.args.us.now in record {
+    let us = c.args.us.now in
+    let u = c.index-us-0.result in
+    let one : u ≡ c.index-us-1.result = c.same.ensures.exact.0 c.if-not-same.false in record {
       firm = c.are_firm.ensures c.if-not-are_firm.false;
       first = c.index-ts-0.result;
       second = c.index-ts-1.result;
-      twice = c.index-us-0.result;
-      are = two_of ts c.index-ts-0.result c.index-ts-1.result (omega (arith, c.len.ensures, c.if-ne.false)) c.index-ts-0.is c.index-ts-1.is;
-      both = _;
+      twice = u;
+      are = two_of ts c.index-ts-0.result c.index-ts-1.result (omega (arith, c.if-ts-ne2.false)) c.index-ts-0.is c.index-ts-1.is;
+      both = two_of us u c.index-us-1.result (omega (arith, c.if-us-ne2.false)) c.index-us-0.is c.index-us-1.is ∙ ap (λ w. u ∷ w ∷ []) (sym one);
       never = c.clash.ensures e;
     }
 
 pub sums_clash-exceeds-requires : goal.sums_clash-exceeds-requires
 sums_clash-exceeds-requires t c = (omega arith, (c.requires.first, c.requires.second))
 
+pub sums_clash-returns-then-exceeds : goal.sums_clash-returns-then-exceeds
+sums_clash-returns-then-exceeds t c e = record {
+  associative = subst IsAssociative c.axioms.ensures (c.is_sum.ensures.holds.0 c.if-not-is_sum.false);
+  lasting = c.keeps_heads.ensures c.if-not-keeps_heads.false;
+  many = (omega (arith, c.if-ts-lt2.false), omega (arith, c.if-us-lt2.false));
+  clash = inl (c.exceeds.ensures c.if-exceeds.true);
+}
+
+pub sums_clash-returns-then-exceeds-2 : goal.sums_clash-returns-then-exceeds-2
+sums_clash-returns-then-exceeds-2 t c e = record {
+  associative = subst IsAssociative c.axioms.ensures (c.is_sum.ensures.holds.0 c.if-not-is_sum.false);
+  lasting = c.keeps_heads.ensures c.if-not-keeps_heads.false;
+  many = (omega (arith, c.if-ts-lt2.false), omega (arith, c.if-us-lt2.false));
+  clash = inr (inl (c.exceeds-2.ensures c.if-exceeds-2.true));
+}
+
 pub sums_clash-returns : goal.sums_clash-returns
-sums_clash-returns t c e = _
+sums_clash-returns t c e = record {
+  associative = subst IsAssociative c.axioms.ensures (c.is_sum.ensures.holds.0 c.if-not-is_sum.false);
+  lasting = c.keeps_heads.ensures c.if-not-keeps_heads.false;
+  many = (omega (arith, c.if-ts-lt2.false), omega (arith, c.if-us-lt2.false));
+  clash = inr (inr (c.are_twice.ensures e));
+}
 
 pub clash-returns-then-ne : goal.clash-returns-then-ne
 clash-returns-then-ne t c kept =
