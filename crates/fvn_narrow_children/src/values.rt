@@ -81,8 +81,8 @@ fn steps_on(rewriter: &Rewriter<'_>, t: &Flat) -> Result<bool, NoMemory>
     ensures { IfOk result
         (ReducibleAs rewriter.now.signature (equations_by rewriter.now) (plain t.now)) }
 {
-    let found = rewriter.step(t)?;
-    Ok(found.is_some())
+    let is = rewriter.is_reducible(t)?;
+    Ok(is)
 }
 
 // Whether the value of the variable is reducible.
