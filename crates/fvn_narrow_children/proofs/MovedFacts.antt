@@ -1,12 +1,12 @@
 -- What is told of a unifier that gives a variable of a value something reducible.
-use Rattle.std.proofs.Common.{◌≡◌, List, [], subst}
-use Rattle.std.specs.Prelude.{◌⊎◌, All, Contains}
+use Rattle.std.proofs.Common.{◌≡◌, List, [], subst, inl, inr}
+use Rattle.std.specs.Prelude.{All, Contains}
 use Rattle.std.proofs.lemmas.List.Elements.{All-contains, All-weaker, All-contains_itself}
 use Rattle.fvn_base.proofs.Membership.{contains_none}
 use Rattle.fvn_terms.specs.declared.plain.Var.{Var}
 use Rattle.fvn_terms.specs.Laws.{RewritingLaws}
 use Rattle.fvn_terms.specs.Signature.{kind, HasKind, IsSort}
-use Rattle.fvn_terms.specs.Substitution.{apply, Occurs}
+use Rattle.fvn_terms.specs.Substitution.{apply}
 use Rattle.fvn_forms.specs.Flat.{FlatTerm, plain}
 use Rattle.fvn_forms.specs.Canon.{inst}
 use Rattle.fvn_forms.specs.Good.{IsGood}

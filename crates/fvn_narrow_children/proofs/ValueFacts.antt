@@ -34,8 +34,8 @@ large_value_is vars s size counted x t u listed is copy count large = record {
 module _ (d : Declarations) (equations : Equations) where
   -- what a test tells
   pub reducible_as : (t : FlatTerm) (b : Bool) → (IsTrue b → IsReducible d equations (plain t)) → (b ≡ false → IsNormalForm d equations t) → ReducibleAs d equations (plain t) b
-  reducible_as t true yes no = yes refl
-  reducible_as t false yes no = no refl
+  reducible_as t true when unless = when refl
+  reducible_as t false when unless = unless refl
 
   pub bound_reducible_as : (s : Bindings) (x : Var) (t : FlatTerm) (b : Bool) → bound s x ≡ Some t → ReducibleAs d equations (plain t) b → ReducibleAs d equations (substitution s x) b
   bound_reducible_as s x t b is h = subst (λ o. ReducibleAs d equations (plain (form_or x o)) b) (sym is) h

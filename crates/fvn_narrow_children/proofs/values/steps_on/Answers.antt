@@ -1,5 +1,4 @@
 -- What the test tells.
-use Rattle.fvn_forms.specs.Flat.{plain}
 use Rattle.fvn_rewrite.specs.Usable.{equations_by}
 use Rattle.fvn_narrow_children.proofs.ValueFacts.{reducible_as}
 use Rattle.fvn_narrow_children.proofs.values.steps_on.Goals as goal
