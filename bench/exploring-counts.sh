@@ -142,8 +142,9 @@ change(path,
        (' eq term(X,Y,Z) = "', ' eq "'),
        ("    ensures workers { result.workers ≡ 2 }", "    ensures workers { result.workers ≡ 1 }"),
        ("        workers: 2,", "        workers: 1,"),
-       ("fn assert_row<R: Threads + Abort + Sync>(\n    rt: &R,", "fn assert_row(\n    rt: &HostRuntime,"),
-       ('    assert_eq!(rt; found.as_str(), row.want, "at {line}");', '    let term = row.term;\n    let _ = println!(rt; "{term}: {found}");'))
+       ("    rt: &R,\n    alloc: Global,\n    line: &str,", "    rt: &R,\n    out: &HostRuntime,\n    alloc: Global,\n    line: &str,"),
+       ("assert_row(&rt, rt.alloc(), line)?;", "assert_row(&rt, &rt, rt.alloc(), line)?;"),
+       ('    assert_eq!(rt; found.as_str(), row.want, "at {line}");', '    let term = row.term;\n    let _ = println!(out; "{term}: {found}");'))
 change("fvn_tests_folding/src/tests.rt", ("mod meetings;\nmod rows;\n", ""))
 CHANGES
 cd fvn_tests_folding
