@@ -62,6 +62,78 @@ SETS = module("SETS", "sort S", "ops " + " ".join("c%d" % i for i in range(1, 31
               "op _+_ : S S -> S [assoc comm]", "vars X Y Z W : S", "eq _+_(X,X,Y,Y,Z,Z,W,W) = e [variant]")
 PARTS = ["V%d:N" % i for i in range(1, 16)]
 
+# Even and odd numbers with a sum without axioms; and with an operator over them that keeps both, under a sum with axioms.
+PARITIES = ["sorts E O N", "subsorts E O < N", "op z : -> E", "op o : -> O"]
+FREE_PARITY = module("FREEPARITY", *PARITIES, "op + : N N -> N", "op + : E E -> E", "op + : O O -> E", "op + : E O -> O", "op + : O E -> O")
+WRAPPED = module("WRAPPED", *PARITIES, *["op + : %s [%s]" % (r, a) for r, a in (
+    ("N N -> N", "assoc comm"), ("E E -> E", "ditto"), ("O O -> E", "ditto"), ("E O -> O", "ditto"))],
+    "op k : N -> N", "op k : E -> E", "op k : O -> O")
+
+
+def leftmost(parts):
+    return nested("+", parts)
+
+
+def rightmost(parts):
+    return parts[0] if len(parts) == 1 else "+(%s,%s)" % (parts[0], rightmost(parts[1:]))
+
+
+def wrapped(n):
+    return "X:N" if n == 0 else "k(+(%s,o))" % wrapped(n - 1)
+
+
+def common_sorts(n, pairs):
+    """So many pairs of variables of two sorts with n common subsorts."""
+    return " /\\ ".join("X%d:A =? Y%d:B" % (i, i) for i in range(pairs)), wide_sorts(n)
+
+
+def edges():
+    """30 edges between five and three vertices, each in both directions: no odd cycle."""
+    return ["h(u%d,w%d)" % (i, j) for i in range(5) for j in range(3)] + ["h(w%d,u%d)" % (j, i) for i in range(5) for j in range(3)]
+
+
+def cycle(n):
+    """A module whose equation matches a cycle of n edges among others."""
+    left = ["h(X%d:V,X%d:V)" % (i, (i + 1) % n) for i in range(n)]
+    return module("CYCLE", "sorts V S", "ops u0 u1 u2 u3 u4 w0 w1 w2 : -> V", "op e : -> S", "op h : V V -> S",
+                  "op _+_ : S S -> S [assoc comm]", "eq %s = e [variant]" % total("_+_", left))
+
+
+def tree(leaves):
+    """A commutative operator over these, two by two."""
+    return leaves[0] if len(leaves) == 1 else "c(%s,%s)" % (tree(leaves[:len(leaves) // 2]), tree(leaves[len(leaves) // 2:]))
+
+
+def trees(n):
+    """An equation whose left side is a tree of n leaves, variables but for the last, a constant."""
+    return module("TREES", "sort S", "ops a b e : -> S", "op c : S S -> S [comm]", "op f : S -> S",
+                  "eq f(%s) = e [variant]" % tree(["X%d:S" % i for i in range(n - 1)] + ["b"]))
+
+
+def doubles(n):
+    """An equation that takes n elements away, each twice."""
+    names = ["X%d:S" % i for i in range(n)]
+    return module("DOUBLES", "sort S", "ops " + " ".join("c%d" % i for i in range(1, 31)) + " : -> S", "op e : -> S",
+                  "op _+_ : S S -> S [assoc comm]", "eq %s = e [variant]" % total("_+_", names + names))
+
+
+def linear(n):
+    return module("LINEAR", "sort S", "ops " + " ".join("c%d" % i for i in range(1, 31)) + " : -> S", "op e : -> S",
+                  "op _+_ : S S -> S [assoc comm]", "eq %s = e [variant]" % total("_+_", ["X%d:S" % i for i in range(n)]))
+
+
+# A term whose rewriting takes twice as many steps for each s.
+HALVES = module("HALVES", "sort S", "ops 0 a : -> S", "ops s f : S -> S", "op g : S S -> S", "var X : S",
+                "eq f(0) = a [variant]", "eq f(s(X)) = g(f(X),f(X)) [variant]", "eq g(a,a) = a [variant]")
+LOOP = module("LOOP", "sort S", "op a : -> S", "op f : S -> S", "var X : S", "eq f(X) = f(X) [variant]")
+UNARY = "s(" * 16 + "0" + ")" * 16
+
+
+def asked(text):
+    """A sum as Maude takes it, whose operators stand in front here."""
+    return "irredundant unify " + text
+
+
 # name, words, module, the question to Maude
 ROWS = [
     ("check, ordinary", ["check"], PLUS, ""),
@@ -96,6 +168,32 @@ ROWS = [
      "reduce +(%s0%s, 0)" % ("s(" * 195, ")" * 195)),
     ("variants, ordinary", ["variants", "+(s(0),X:N)"], PLUS, "get irredundant variants +(s(0), X:N)"),
     ("variants, 40 levels", ["variants", "--levels", "40", "+(X:N,Y:N)"], PLUS, "get irredundant variants [41] +(X:N, Y:N)"),
+    *[("unify, sorts of %d sums, %s" % (n, where), ["unify", "E:E =? " + form(parts)], FREE_PARITY, asked("E:E =? " + form(parts)))
+      for n in (10, 40) for where, form, parts in (
+          ("constants on the right", leftmost, ["X:N"] + ["o"] * n), ("constants on the left", rightmost, ["o"] * n + ["X:N"]),
+          ("one variable on the right", leftmost, ["X:N"] + ["Y:N"] * n), ("constants alone", leftmost, ["o"] * (n + 1)))],
+    *[("unify, sorts of %d sums in operators" % n, ["unify", "E:E =? " + wrapped(n)], WRAPPED, asked("E:E =? " + wrapped(n)))
+      for n in (10, 40)],
+    ("unify, 2,048 ways of parities", ["unify", "E:E =? " + rightmost(["X%d:N" % i for i in range(12)])], FREE_PARITY,
+     asked("E:E =? " + rightmost(["X%d:N" % i for i in range(12)]))),
+    *[("unify, 2 to the %d ways, pairs of sorts" % n, ["unify", common_sorts(2, n)[0]], common_sorts(2, n)[1],
+       asked(common_sorts(2, n)[0])) for n in (8, 11, 12, 13, 14)],
+    *[("verify, a cycle of %d among 30 edges" % n, ["verify", total("_+_", edges()) + " =? X:S", "{X:S --> e}"], cycle(n),
+       "reduce " + total("_+_", edges())) for n in (3, 5, 7, 9)],
+    *[("verify, a commutative tree of %d leaves" % n, ["verify", "f(%s) =? X:S" % tree(["a"] * n), "{X:S --> e}"], trees(n),
+       "reduce f(%s)" % tree(["a"] * n)) for n in (8, 16, 32, 64)],
+    ("verify, 12 doubles in 30 elements", ["verify", total("_+_", ["c%d" % i for i in range(1, 31)]) + " =? X:S", "{X:S --> e}"],
+     doubles(12), "reduce " + total("_+_", ["c%d" % i for i in range(1, 31)])),
+    ("verify, 12 doubles in 13 doubles and 4", ["verify", total("_+_", ["c%d" % i for i in range(1, 14)] * 2 + ["c14", "c15", "c16", "c17"])
+     + " =? X:S", "{X:S --> e}"], doubles(12), "reduce " + total("_+_", ["c%d" % i for i in range(1, 14)] * 2 + ["c14", "c15", "c16", "c17"])),
+    ("verify, 24 variables in 30 elements", ["verify", total("_+_", ["c%d" % i for i in range(1, 31)]) + " =? X:S", "{X:S --> e}"],
+     linear(24), "reduce " + total("_+_", ["c%d" % i for i in range(1, 31)])),
+    ("verify, 262,143 steps", ["verify", "f(%s) =? a" % UNARY, "{}", "--steps", "1000000"], HALVES, "reduce f(%s)" % UNARY),
+    ("verify, 1,000,000 steps", ["verify", "f(a) =? a", "{}", "--steps", "1000000"], LOOP, ""),
+    ("variants, 200 levels", ["variants", "--levels", "200", "+(X:N,Y:N)"], PLUS, "get irredundant variants [401] +(X:N, Y:N)"),
+    ("variants, 1,000 levels", ["variants", "--levels", "1000", "--variants", "10000", "+(X:N,Y:N)"], PLUS,
+     "get irredundant variants [2001] +(X:N, Y:N)"),
+    ("vunify, 200 levels", ["vunify", "--levels", "200", "+(X:N,Y:N) =? s(s(0))"], PLUS, "variant unify [3] +(X:N, Y:N) =? s(s(0))"),
     ("terminates, 256 equations", ["terminates", "g : 1 1"],
      module("MANY", "sort S", "op a : -> S", "op g : S -> S", *["eq %s = a [variant]" % ("g(" * 398 + "a" + ")" * 398)] * 256), ""),
 ]

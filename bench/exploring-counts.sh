@@ -1,5 +1,5 @@
 #!/usr/bin/env bash
-# How much an exploration by levels goes through: levels, variants that are kept and given, members that were expanded, children that were found, variants that were profiled, coverings that were asked, and what answered them: marks, sorts of values that are variables, profiles, or matching. Unifiers of the solver, variants without terms, are not counted. One worker. It proves nothing: run at the top of the repository, it works in a copy, to whose code it adds counters. ROWS=FILE takes other rows than those below.
+# How much an exploration by levels goes through: levels, variants that are kept and given, members that were expanded, children that were found, variants that were profiled, coverings that were asked, and what answered them: marks, sorts of values that are variables, profiles, heads, or matching. Unifiers of the solver, variants without terms, are not counted. One worker. It proves nothing: run at the top of the repository, it works in a copy, to whose code it adds counters. ROWS=FILE takes other rows than those below.
 set -e
 here=$(cd "$(dirname "$0")/.." && pwd)
 there=$(mktemp -d)
@@ -26,6 +26,7 @@ pub struct Counts {
     pub past_marks: AtomicU64,
     pub past_sorts: AtomicU64,
     pub past_profiles: AtomicU64,
+    pub past_heads: AtomicU64,
     pub found: AtomicU64,
 }
 
@@ -38,6 +39,7 @@ impl Drop for Counts {
             past_marks: _,
             past_sorts: _,
             past_profiles: _,
+            past_heads: _,
             found: _,
         } = self;
     }
@@ -53,6 +55,7 @@ impl Counts {
             past_marks: AtomicU64::new(0),
             past_sorts: AtomicU64::new(0),
             past_profiles: AtomicU64::new(0),
+            past_heads: AtomicU64::new(0),
             found: AtomicU64::new(0),
         }
     }
@@ -89,13 +92,14 @@ change("fvn_signature/src/queries/signature.rt",
        ("use crate::draft::Draft;\n", "use crate::counts::Counts;\nuse crate::draft::Draft;\n"))
 change("fvn_cover/src/covering.rt",
        ("use fvn_signature::Signature;\n", "use fvn_signature::{Signature, note};\n"),
-       ("        if !self.marks.may_cover(", "        let one = self.variant.terms.as_slice().len().min(1);\n        note(&sig.counts.asked, one);\n        if !self.marks.may_cover("),
-       ("        if !may_reach_all(", "        note(&sig.counts.past_marks, one);\n        if !may_reach_all("),
+       ("        if !may_reach_all(", "        let one = self.variant.terms.as_slice().len().min(1);\n        note(&sig.counts.past_marks, one);\n        if !may_reach_all("),
        ("        if !self.profile.may_cover(", "        note(&sig.counts.past_sorts, one);\n        if !self.profile.may_cover("),
-       ("        let found = matches_both(", "        note(&sig.counts.past_profiles, one);\n        let found = matches_both("),
+       ("        if !self.have_heads_of(", "        note(&sig.counts.past_profiles, one);\n        if !self.have_heads_of("),
+       ("        let found = matches_both(", "        note(&sig.counts.past_heads, one);\n        let found = matches_both("),
        ("        Ok(found.is_some())", "        if found.is_some() {\n            note(&sig.counts.found, one);\n        }\n        Ok(found.is_some())"))
 change("fvn_cover/src/keeping.rt",
        ("use fvn_signature::Signature;\n", "use fvn_signature::{Signature, note};\n"),
+       ("        if !self.marks.may_cover(", "        note(&sig.counts.asked, self.variant.terms.as_slice().len().min(1));\n        if !self.marks.may_cover("),
        ("    let p = Profile::of(", "    note(&sig.counts.profiles, v.terms.as_slice().len().min(1));\n    let p = Profile::of("))
 change("fvn_fold/src/levels.rt",
        ("use fvn_signature::Signature;\n", "use fvn_signature::{Signature, note};\n"),
@@ -121,8 +125,9 @@ fn shown_counts(alloc: Global, sig: &Signature, x: &Explored) -> Result<String, 
     let past_marks = noted(&c.past_marks);
     let past_sorts = noted(&c.past_sorts);
     let past_profiles = noted(&c.past_profiles);
+    let past_heads = noted(&c.past_heads);
     let found = noted(&c.found);
-    let out = format!(in alloc; "{end}: levels {levels}, kept {kept}, given {given}, children {children}, profiled {profiles}, coverings asked {asked}, left by marks {past_marks}, by sorts {past_sorts}, by profiles {past_profiles}, found by matching {found}")?;
+    let out = format!(in alloc; "{end}: levels {levels}, kept {kept}, given {given}, children {children}, profiled {profiles}, coverings asked {asked}, left by marks {past_marks}, by sorts {past_sorts}, by profiles {past_profiles}, by heads {past_heads}, found by matching {found}")?;
     Ok(out)
 }
 '''
@@ -137,8 +142,9 @@ change(path,
        (' eq term(X,Y,Z) = "', ' eq "'),
        ("    ensures workers { result.workers ≡ 2 }", "    ensures workers { result.workers ≡ 1 }"),
        ("        workers: 2,", "        workers: 1,"),
-       ("fn assert_row<R: Threads + Abort + Sync>(\n    rt: &R,", "fn assert_row(\n    rt: &HostRuntime,"),
-       ('    assert_eq!(rt; found.as_str(), row.want, "at {line}");', '    let term = row.term;\n    let _ = println!(rt; "{term}: {found}");'))
+       ("    rt: &R,\n    alloc: Global,\n    line: &str,", "    rt: &R,\n    out: &HostRuntime,\n    alloc: Global,\n    line: &str,"),
+       ("assert_row(&rt, rt.alloc(), line)?;", "assert_row(&rt, &rt, rt.alloc(), line)?;"),
+       ('    assert_eq!(rt; found.as_str(), row.want, "at {line}");', '    let term = row.term;\n    let _ = println!(out; "{term}: {found}");'))
 change("fvn_tests_folding/src/tests.rt", ("mod meetings;\nmod rows;\n", ""))
 CHANGES
 cd fvn_tests_folding

@@ -133,8 +133,11 @@ pub fn has_no_alias(
     let _state = state;
     table.recall_well_made();
     let n = table.nodes().len();
-    let solutions = taken(alloc, basis, number)?;
     let constants = constants_of(alloc, reading, n, tags, sums)?;
+    if constants.is_empty() {
+        return Ok(true);
+    }
+    let solutions = taken(alloc, basis, number)?;
     for j in 0..sums.columns.len() {
         if is_alias_at(
             reading,

@@ -8,3 +8,5 @@ mod Told
 mod Marks
 mod SortedValues
 mod HeadsTold
+mod Added
+mod Sizing

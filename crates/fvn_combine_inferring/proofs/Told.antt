@@ -23,10 +23,11 @@ use Rattle.fvn_combine_nodes.specs.declared.state.State.{State}
 use Rattle.fvn_combine_nodes.proofs.Admitting.{decided}
 use Rattle.fvn_combine_choices.specs.Tables.{HasSums}
 use Rattle.fvn_combine_inferring.specs.Sorted.{GoWithSorts}
-use Rattle.fvn_combine_inferring.specs.Inferred.{HasNoValues, HaveOneValue, HaveTwoValues}
+use Rattle.fvn_combine_inferring.specs.Inferred.{HasNoValues, HaveOneValue}
 use Rattle.fvn_combine_inferring.specs.Rows.{summands, times, many, HaveSameSummands, AreSides, HasFewSummands, IsSummand, IsAmong}
 use Rattle.fvn_combine_inferring.specs.inner.Splits.{IsUnitNode}
 use Rattle.fvn_combine_inferring.specs.inner.Bounds.{IsItOr}
+use Rattle.fvn_combine_inferring.specs.inner.Sizes.{IsNoSummand}
 use Rattle.fvn_combine_inferring.proofs.Values.{nothing_value, bare_summand}
 
 scaled-lt : (n a b : ℕ) → a < b → suc n * a < suc n * b
@@ -194,7 +195,7 @@ module _ (d : Declarations) (t : NodeTable) (s : State) (sorted : Bool) where
         at (q ∷ r ∷ l) e = absurd (let n = ap length e in omega (arith, n, few))
 
     -- a form is no summand of what is another one, and has one summand at most
-    other_times : (values : ℕ → FlatTerm) → GoWithSorts d t s sorted values → (q : FlatTerm) (k : ℕ) → many d s f values k ≤ 1 → q ≢ values (class_of s k) → times d s f values q k ≡ 0
+    pub other_times : (values : ℕ → FlatTerm) → GoWithSorts d t s sorted values → (q : FlatTerm) (k : ℕ) → many d s f values k ≤ 1 → q ≢ values (class_of s k) → times d s f values q k ≡ 0
     other_times values go q k few n = at (summands d s f values k) refl
       where
         told : (b : Bool) → same_flat q (values (class_of s k)) ≡ b → one_if b + 0 ≡ 0
@@ -214,25 +215,28 @@ module _ (d : Declarations) (t : NodeTable) (s : State) (sorted : Bool) where
         let c = none_times values q ys (All-tail P y ys h) in
         omega (arith, a, b, c)
 
-    -- a single summand that differs from all it is among
-    pub bag_out : (k : ℕ) (ys : List ℕ) → IsSummand d t s sorted f k → All (HasFewSummands d t s sorted f) ys → IsAmong d t s f k ys → All (HaveTwoValues d t s sorted k) ys → HasNoValues d t s sorted
-    bag_out k ys one few among differ values go =
+    -- a single summand that is one of nothing that it is among
+    pub bag_out : (k : ℕ) (ys : List ℕ) → IsSummand d t s sorted f k → IsAmong d t s f k ys → All (IsNoSummand d t s sorted f k) ys → HasNoValues d t s sorted
+    bag_out k ys one among out values go =
         let q = values (class_of s k) in
         let a = ap (count q) (one values go) in
         let b = count_itself q [] in
         let c = among values go.go q in
-        let z = none_times values q ys (λ i e l. other_times values go q (get_or ys i e) (few i e l values go) (differ i e l values go)) in
+        let z = none_times values q ys (λ i e l. out i e l values go) in
         omega (arith, a, b, c, z)
 
-    -- a single summand that differs from all it is among but one has the value of that one
-    pub bag_one : (k l : ℕ) (ys : List ℕ) → IsSummand d t s sorted f k → All (HasFewSummands d t s sorted f) ys → IsAmong d t s f k ys → All (IsItOr (HaveTwoValues d t s sorted k) l) ys → HaveOneValue d t s sorted k l
+    -- a single summand that is one of nothing that it is among but one, which has one summand at most, has the value of that one
+    pub bag_one : (k l : ℕ) (ys : List ℕ) → IsSummand d t s sorted f k → HasFewSummands d t s sorted f l → IsAmong d t s f k ys → All (IsItOr (IsNoSummand d t s sorted f k) l) ys → HaveOneValue d t s sorted k l
     bag_one k l ys one few among others values go = at (same_flat (values (class_of s k)) (values (class_of s l))) refl
       where
-        differs : same_flat (values (class_of s k)) (values (class_of s l)) ≡ false → (y : ℕ) → IsItOr (HaveTwoValues d t s sorted k) l y → values (class_of s k) ≢ values (class_of s y)
-        differs e y (inl is) same =
-            let back : values (class_of s l) ≡ values (class_of s k) = sym (same ∙ ap (λ n. values (class_of s n)) is) in
+        differs : same_flat (values (class_of s k)) (values (class_of s l)) ≡ false → values (class_of s k) ≢ values (class_of s l)
+        differs e same =
+            let back : values (class_of s l) ≡ values (class_of s k) = sym same in
             false≢true (sym e ∙ ap (same_flat (values (class_of s k))) back ∙ same_flat_itself (values (class_of s k)))
-        differs e y (inr two) same = two values go same
+
+        out : same_flat (values (class_of s k)) (values (class_of s l)) ≡ false → (y : ℕ) → IsItOr (IsNoSummand d t s sorted f k) l y → times d s f values (values (class_of s k)) y ≡ 0
+        out e y (inl is) = ap (times d s f values (values (class_of s k))) is ∙ other_times values go (values (class_of s k)) l (few values go) (differs e)
+        out e y (inr absent) = absent values go
 
         at : (b : Bool) → same_flat (values (class_of s k)) (values (class_of s l)) ≡ b → values (class_of s k) ≡ values (class_of s l)
         at true e = same_flat_is (values (class_of s k)) (values (class_of s l)) e
@@ -241,7 +245,7 @@ module _ (d : Declarations) (t : NodeTable) (s : State) (sorted : Bool) where
             let a = ap (count q) (one values go) in
             let b = count_itself q [] in
             let c = among values go.go q in
-            let z = none_times values q ys (λ i x within. other_times values go q (get_or ys i x) (few i x within values go) (differs e (get_or ys i x) (others i x within))) in
+            let z = none_times values q ys (λ i x within. out e (get_or ys i x) (others i x within)) in
             absurd (omega (arith, a, b, c, z))
 
     -- what stands on one side is among the other

@@ -2,3 +2,4 @@
 pub mod Lists
 pub mod Splits
 pub mod Bounds
+pub mod Sizes

@@ -11,6 +11,7 @@ ghost use Rattle.fvn_combine_inferring.specs.inner.Splits.{IsAddition};
 
 use crate::expressions::{Addition, unit_of};
 use crate::heads::Known;
+use crate::summed::is_summed;
 use fvn_combine_nodes::{State, Table, has_no_identity};
 use fvn_signature::Signature;
 use fvn_terms::OpId;
@@ -60,7 +61,7 @@ pub(crate) fn are_apart(state: &State, i: usize, j: usize) -> bool
 }
 
 // Whether the class of node k is kept apart from f's identity.
-fn is_apart_from_unit(
+pub(crate) fn is_apart_from_unit(
     sig: &Signature,
     table: &Table,
     state: &State,
@@ -94,7 +95,7 @@ fn is_marked(state: &State, known: &Known, marks: &[bool], k: usize) -> bool
 }
 
 // Whether the class of node k is headed by another operator: its value is one summand.
-fn is_headed(
+pub(crate) fn is_headed(
     sig: &Signature,
     table: &Table,
     state: &State,
@@ -113,7 +114,7 @@ fn is_headed(
 }
 
 // Whether the value of the class of node k has a summand for sure.
-fn has_summand(
+pub(crate) fn has_summand(
     sig: &Signature,
     table: &Table,
     state: &State,
@@ -137,11 +138,14 @@ fn has_summand(
     if is_marked(state, known, addition.other.as_slice(), k) {
         return true;
     }
-    is_apart_from_unit(sig, table, state, known.sorted, addition.operator, k)
+    if is_apart_from_unit(sig, table, state, known.sorted, addition.operator, k) {
+        return true;
+    }
+    is_summed(sig, table, state, known, addition.operator, k)
 }
 
 // Whether the value of the class of node k has one summand at most.
-fn has_few_summands(
+pub(crate) fn has_few_summands(
     sig: &Signature,
     table: &Table,
     state: &State,

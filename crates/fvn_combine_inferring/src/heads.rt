@@ -5,12 +5,13 @@ ghost use Rattle.fvn_terms.specs.Equality.{IsAssociative};
 ghost use Rattle.fvn_combine_choices.specs.Tables.{HasSums};
 ghost use Rattle.fvn_combine_leaves.specs.Readings.{IsReading};
 ghost use Rattle.fvn_combine_nodes.specs.States.{IsClosed, class_of};
-ghost use Rattle.fvn_combine_inferring.specs.inner.Bounds.{HasTwoSummands};
+ghost use Rattle.fvn_combine_inferring.specs.inner.Bounds.{HasTwoSummands, IsPart};
 ghost use Rattle.fvn_combine_inferring.specs.inner.Splits.{IsAddition};
 ghost use Rattle.fvn_combine_inferring.specs.Inferred.{TellHeads};
 
-use crate::bounds::count_summands;
-use crate::expressions::{Addition, addition_of};
+use crate::bounds::{count_summands, has_summand};
+use crate::differing::differ;
+use crate::expressions::{Addition, addition_of, split_at};
 use crate::rows::added;
 use fvn_combine_leaves::Reading;
 use fvn_combine_nodes::{State, Table};
@@ -34,8 +35,8 @@ fn is_two(count: usize) -> bool
     count >= 2
 }
 
-// Whether node i is a sum of two summands for sure.
-fn is_large(
+// Whether two of the classes that node i adds have a summand for sure.
+fn adds_two(
     alloc: Global,
     sig: &Signature,
     table: &Table,
@@ -59,6 +60,82 @@ fn is_large(
             Ok(large)
         }
     }
+}
+
+// Whether the class of node k has a summand for sure, and another value than that of node i.
+fn is_part(
+    sig: &Signature,
+    table: &Table,
+    state: &State,
+    known: &Known,
+    addition: &Addition,
+    k: usize,
+    i: usize,
+) -> bool
+    requires closed { IsClosed sig.now table.now state.now }
+    requires sums { HasSums sig.now table.now }
+    requires heads { TellHeads sig.now table.now state.now known.now.sorted known.now.heads.items }
+    requires addition { IsAddition sig.now table.now state.now addition.now }
+    requires part { k < length table.now.nodes }
+    requires within { i < length table.now.nodes }
+    ensures { IsTrue result → IsPart sig.now table.now state.now known.now.sorted addition.now.operator k i }
+{
+    if !has_summand(sig, table, state, known, addition, k) {
+        return false;
+    }
+    differ(sig, table, state, known, k, i)
+}
+
+// Whether node i adds a class that has a summand for sure, and not all that the sum has.
+fn has_part(
+    sig: &Signature,
+    table: &Table,
+    state: &State,
+    known: &Known,
+    addition: &Addition,
+    i: usize,
+) -> bool
+    requires closed { IsClosed sig.now table.now state.now }
+    requires sums { HasSums sig.now table.now }
+    requires heads { TellHeads sig.now table.now state.now known.now.sorted known.now.heads.items }
+    requires addition { IsAddition sig.now table.now state.now addition.now }
+    requires within { i < length table.now.nodes }
+    ensures { IsTrue result → HasTwoSummands sig.now table.now state.now known.now.sorted addition.now.operator i }
+{
+    table.recall_well_made();
+    match split_at(table, state, addition.operator, i) {
+        None => false,
+        Some(p) => {
+            if is_part(sig, table, state, known, addition, p.0, i) {
+                return true;
+            }
+            is_part(sig, table, state, known, addition, p.1, i)
+        }
+    }
+}
+
+// Whether node i is a sum of two summands for sure.
+fn is_large(
+    alloc: Global,
+    sig: &Signature,
+    table: &Table,
+    state: &State,
+    known: &Known,
+    addition: &Addition,
+    i: usize,
+) -> Result<bool, NoMemory>
+    requires closed { IsClosed sig.now table.now state.now }
+    requires sums { HasSums sig.now table.now }
+    requires heads { TellHeads sig.now table.now state.now known.now.sorted known.now.heads.items }
+    requires addition { IsAddition sig.now table.now state.now addition.now }
+    requires within { i < length table.now.nodes }
+    ensures { IfOk result (λ r. IsTrue r → HasTwoSummands sig.now table.now state.now known.now.sorted addition.now.operator i) }
+{
+    if has_part(sig, table, state, known, addition, i) {
+        return Ok(true);
+    }
+    let large = adds_two(alloc, sig, table, state, known, addition, i)?;
+    Ok(large)
 }
 
 // Notes a head.

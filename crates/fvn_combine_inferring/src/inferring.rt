@@ -6,12 +6,14 @@ ghost use Rattle.fvn_combine_choices.specs.Tables.{HasSums};
 ghost use Rattle.fvn_combine_leaves.specs.Readings.{IsReading};
 ghost use Rattle.fvn_combine_nodes.specs.States.{IsClosed, class_of};
 ghost use Rattle.fvn_combine_inferring.specs.Inferred.{TellHeads, IsInferred};
+ghost use Rattle.fvn_combine_inferring.specs.inner.Sizes.{AreInside};
 ghost use Rattle.fvn_combine_inferring.specs.inner.Splits.{IsAddition};
 
 use crate::expressions::{Addition, addition_of};
 use crate::heads::Known;
 use crate::rows::row_at;
 use crate::rules::rule;
+use crate::sizes::{Inside, insides, is_circular};
 use fvn_combine_leaves::Reading;
 use fvn_combine_nodes::{State, Table};
 use fvn_signature::Signature;
@@ -72,12 +74,14 @@ fn infer_at(
     state: &State,
     known: &Known,
     addition: &Addition,
+    insides: &[Inside],
     i: usize,
 ) -> Result<Inferred, NoMemory>
     requires closed { IsClosed sig.now table.now state.now }
     requires sums { HasSums sig.now table.now }
     requires heads { TellHeads sig.now table.now state.now known.now.sorted known.now.heads.items }
     requires addition { IsAddition sig.now table.now state.now addition.now }
+    requires insides { AreInside sig.now table.now state.now known.now.sorted insides.now }
     requires within { i < length table.now.nodes }
     ensures { IfOk result (IsInferred sig.now table.now state.now known.now.sorted) }
 {
@@ -86,7 +90,7 @@ fn infer_at(
         Some(row) => {
             let left = row.left.as_slice();
             let right = row.right.as_slice();
-            Ok(rule(sig, table, state, known, addition, left, right))
+            Ok(rule(sig, table, state, known, addition, insides, left, right))
         }
     }
 }
@@ -98,18 +102,20 @@ fn infer_of(
     table: &Table,
     state: &State,
     known: &Known,
+    insides: &[Inside],
     f: OpId,
 ) -> Result<Inferred, NoMemory>
     requires associative { IsAssociative (axioms sig.now f) }
     requires closed { IsClosed sig.now table.now state.now }
     requires sums { HasSums sig.now table.now }
     requires heads { TellHeads sig.now table.now state.now known.now.sorted known.now.heads.items }
+    requires insides { AreInside sig.now table.now state.now known.now.sorted insides.now }
     ensures { IfOk result (IsInferred sig.now table.now state.now known.now.sorted) }
 {
     let addition = addition_of(alloc, sig, table, state, known, f)?;
     let mut asked = Inferred::Nothing;
     for i in 0..table.nodes().len() {
-        let told = infer_at(alloc, sig, table, state, known, &addition, i)?;
+        let told = infer_at(alloc, sig, table, state, known, &addition, insides, i)?;
         if told.is_fact() {
             return Ok(told);
         }
@@ -135,9 +141,21 @@ pub fn infer(
     ensures { IfOk result (IsInferred sig.now table.now state.now known.now.sorted) }
 {
     table.recall_well_made();
+    let pairs = insides(alloc, sig, table, state, reading, known)?;
+    if is_circular(pairs.as_slice()) {
+        return Ok(Inferred::Impossible);
+    }
     let mut asked = Inferred::Nothing;
     for sums in reading.sums.as_slice() {
-        let told = infer_of(alloc, sig, table, state, known, sums.operator)?;
+        let told = infer_of(
+            alloc,
+            sig,
+            table,
+            state,
+            known,
+            pairs.as_slice(),
+            sums.operator,
+        )?;
         if told.is_fact() {
             return Ok(told);
         }

@@ -12,7 +12,9 @@ mod laws;
 mod meeting;
 mod rows;
 mod rules;
+mod sizes;
 mod sorts;
+mod summed;
 
 pub use differing::differ;
 pub use heads::{Known, known_of};

@@ -4,6 +4,7 @@ ghost use Rattle.fvn_combine_choices.specs.Tables.{HasSums};
 ghost use Rattle.fvn_combine_nodes.specs.States.{IsClosed};
 ghost use Rattle.fvn_combine_inferring.specs.Inferred.{TellHeads, IsInferred};
 ghost use Rattle.fvn_combine_inferring.specs.Rows.{AreSides};
+ghost use Rattle.fvn_combine_inferring.specs.inner.Sizes.{AreInside};
 ghost use Rattle.fvn_combine_inferring.specs.inner.Splits.{IsAddition};
 
 use crate::bags::bagged;
@@ -12,6 +13,7 @@ use crate::expressions::{Addition, unit_of};
 use crate::heads::Known;
 use crate::inferring::Inferred;
 use crate::meeting::{all_met, met};
+use crate::sizes::Inside;
 use fvn_combine_nodes::{State, Table, has_no_identity};
 use fvn_signature::Signature;
 use fvn_terms::OpId;
@@ -183,6 +185,7 @@ fn both_bagged(
     state: &State,
     known: &Known,
     addition: &Addition,
+    insides: &[Inside],
     left: &[usize],
     right: &[usize],
 ) -> Inferred
@@ -190,16 +193,17 @@ fn both_bagged(
     requires sums { HasSums sig.now table.now }
     requires heads { TellHeads sig.now table.now state.now known.now.sorted known.now.heads.items }
     requires addition { IsAddition sig.now table.now state.now addition.now }
+    requires insides { AreInside sig.now table.now state.now known.now.sorted insides.now }
     requires left { All (λ k. k < length table.now.nodes) left.now }
     requires right { All (λ k. k < length table.now.nodes) right.now }
     requires sides { AreSides sig.now table.now state.now addition.now.operator left.now right.now }
     ensures { IsInferred sig.now table.now state.now known.now.sorted result }
 {
-    let told = bagged(sig, table, state, known, addition, left, right);
+    let told = bagged(sig, table, state, known, addition, insides, left, right);
     if told.is_something() {
         return told;
     }
-    bagged(sig, table, state, known, addition, right, left)
+    bagged(sig, table, state, known, addition, insides, right, left)
 }
 
 // What the row says.
@@ -209,6 +213,7 @@ pub(crate) fn rule(
     state: &State,
     known: &Known,
     addition: &Addition,
+    insides: &[Inside],
     left: &[usize],
     right: &[usize],
 ) -> Inferred
@@ -216,6 +221,7 @@ pub(crate) fn rule(
     requires sums { HasSums sig.now table.now }
     requires heads { TellHeads sig.now table.now state.now known.now.sorted known.now.heads.items }
     requires addition { IsAddition sig.now table.now state.now addition.now }
+    requires insides { AreInside sig.now table.now state.now known.now.sorted insides.now }
     requires left { All (λ k. k < length table.now.nodes) left.now }
     requires right { All (λ k. k < length table.now.nodes) right.now }
     requires sides { AreSides sig.now table.now state.now addition.now.operator left.now right.now }
@@ -253,5 +259,5 @@ pub(crate) fn rule(
     if told_same.is_something() {
         return told_same;
     }
-    both_bagged(sig, table, state, known, addition, left, right)
+    both_bagged(sig, table, state, known, addition, insides, left, right)
 }

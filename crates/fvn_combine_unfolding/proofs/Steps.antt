@@ -10,7 +10,7 @@ use Rattle.fvn_terms.specs.Term.{var}
 use Rattle.fvn_terms.specs.Substitution.{Substitution, apply, followed_by, Occurs, same_var}
 use Rattle.fvn_terms.specs.Signature.{kind, IsSort}
 use Rattle.fvn_terms.proofs.Substitutions.{apply-apply, apply-var, apply-agree}
-use Rattle.fvn_forms.specs.Flat.{FlatTerm, fvar, plain}
+use Rattle.fvn_forms.specs.Flat.{FlatTerm, fvar, fapp, plain}
 use Rattle.fvn_forms.specs.Canon.{eval, canon}
 use Rattle.fvn_forms.specs.Settled.{Settled, SettledValues}
 use Rattle.fvn_forms.specs.Good.{IsGood}
@@ -19,13 +19,23 @@ use Rattle.fvn_forms.proofs.Instances.{inst_settled, inst_eval}
 use Rattle.fvn_forms.proofs.LeastSort.{inst_of_kind}
 use Rattle.fvn_flat.specs.Bindings.{Bindings, form_or, value, BindingsFit}
 use Rattle.fvn_flat.specs.SolvedLists.{only, unfolded}
-use Rattle.fvn_flat.proofs.Binding.{same_var_is}
+use Rattle.fvn_flat.specs.Forms.{variable_of}
+use Rattle.fvn_flat.proofs.Binding.{same_var_is, bound_first}
 use Rattle.fvn_flat.proofs.Composing.{empty_fits, bind_fits}
 use Rattle.fvn_combine_choices.specs.Plans.{unfolds_to}
 use Rattle.fvn_combine_unfolding.specs.Sizes.{IsFitting}
 use Rattle.fvn_combine_unfolding.specs.inner.Replaced.{step, replaced}
 
+-- a form that is read as a variable is that variable
+pub variable_is : (t : FlatTerm) (x : Var) → variable_of t ≡ Some x → t ≡ fvar x
+variable_is (fvar y) x e = let q : y ≡ x = cc in ap fvar q
+variable_is (fapp f joined ts) x e = cc
+
 module _ (d : Declarations) where
+  -- the variable itself becomes what it is bound to
+  pub step_variable : (b : Var × FlatTerm) (t : FlatTerm) → t ≡ fvar b.0 → b.1 ≡ step d b t
+  step_variable b t e = sym (ap (step d b) e ∙ ap (form_or b.0) (bound_first b []))
+
   -- one binding as a substitution
   pub one_fits : (b : Var × FlatTerm) → IsFitting d b → BindingsFit d (b ∷ [])
   one_fits b h = bind_fits d [] b.0 b.1 (empty_fits d) h.flat (λ i. h.kinded)

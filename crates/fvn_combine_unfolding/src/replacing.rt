@@ -1,8 +1,8 @@
 //! The substitution that bindings unfold to.
-ghost use Rattle.std.specs.Prelude.{◌≡◌, ◌↔◌, Some, is_some, All, Contains, IfOk};
+ghost use Rattle.std.specs.Prelude.{◌≡◌, ◌↔◌, Some, is_some, All, Contains, IfOk, IsTrue};
 ghost use Rattle.fvn_terms.specs.declared.plain.Var.{Var as Variable};
 ghost use Rattle.fvn_terms.specs.Signature.{IsSort};
-ghost use Rattle.fvn_forms.specs.Flat.{FlatTerm};
+ghost use Rattle.fvn_forms.specs.Flat.{FlatTerm, fvar};
 ghost use Rattle.fvn_flat.specs.Fits.{Fits};
 ghost use Rattle.fvn_flat.specs.Bindings.{bound, value, BindingsFit};
 ghost use Rattle.fvn_combine_choices.specs.Plans.{unfolds_to};
@@ -14,7 +14,24 @@ use fvn_signature::Signature;
 use fvn_terms::{NoMemory, Var};
 use std::alloc::Global;
 
-// The term with one variable replaced.
+// Whether the two variables are one.
+fn are_one(x: Var, y: Var) -> bool
+    ensures { IsTrue result → x ≡ y }
+{
+    x == y
+}
+
+// Whether the term is the variable.
+fn is_variable(t: &Flat, x: Var) -> bool
+    ensures { IsTrue result → t.now ≡ fvar x }
+{
+    match t.as_var() {
+        Some(y) => are_one(y, x),
+        None => false,
+    }
+}
+
+// The term with one variable replaced; where it is that variable, nothing is built.
 fn replaced_one(alloc: Global, sig: &Signature, x: Var, u: &Flat, t: Flat) -> Result<Flat, NoMemory>
     requires binding { IsFitting sig.now (x, u.now) }
     requires term { Fits sig.now t }
@@ -22,6 +39,10 @@ fn replaced_one(alloc: Global, sig: &Signature, x: Var, u: &Flat, t: Flat) -> Re
     ensures fits { IfOk result (Fits sig.now) }
 {
     sig.recall_good();
+    if is_variable(&t, x) {
+        let whole = u.copy(alloc)?;
+        return Ok(whole);
+    }
     if !t.has_var(x) {
         return Ok(t);
     }
@@ -73,7 +94,7 @@ fn with_value(
         return Ok(s);
     }
     let t = unfolded(alloc, sig, bindings, x)?;
-    let more = s.bind(alloc, x, &t)?;
+    let more = s.with_pair(x, t)?;
     Ok(more)
 }
 

@@ -1,5 +1,5 @@
 -- A matcher of terms and values is a covering of variants.
-use Rattle.std.proofs.Common.{◌≡◌, false, List, [], ◌∷◌, ◌++◌, length, map, Option, Some, None, refl, sym, ap, ◌∙◌, subst, inl, inr, arith}
+use Rattle.std.proofs.Common.{◌≡◌, ◌<◌, ℕ, zero, suc, false, List, [], ◌∷◌, ◌++◌, length, get_or, map, Option, Some, None, refl, sym, ap, ◌∙◌, subst, inl, inr, arith}
 use Rattle.std.specs.Prelude.{◌↔◌, All, Contains, IfSome, is_some, IsTrue}
 use Rattle.std.specs.List.{AllZip}
 use Rattle.std.proofs.lemmas.List.{length-map, map-append}
@@ -87,6 +87,20 @@ module _ (d : Declarations) where
       let zip = subst (λ x. AllZip (Makes s) x (map plain ws ++ map plain vs)) (map-append plain ts us) (subst (λ x. AllZip (Makes s) (map plain (ts ++ us)) x) (map-append plain ws vs) m.1) in
       n s (m.0, ((AllZip-append (Makes s) (map plain ts) (map plain ws) (map plain us) (map plain vs) (length-map ts plain ∙ l ∙ sym (length-map ws plain))).0 zip).1)
 
+  -- nor before others
+  pub unmatched_before : (ts ws us vs : List FlatTerm) → length ts ≡ length ws → HasNoMatcher d ts ws → HasNoMatcher d (ts ++ us) (ws ++ vs)
+  unmatched_before ts ws us vs l n s m =
+      let zip = subst (λ x. AllZip (Makes s) x (map plain ws ++ map plain vs)) (map-append plain ts us) (subst (λ x. AllZip (Makes s) (map plain (ts ++ us)) x) (map-append plain ws vs) m.1) in
+      n s (m.0, ((AllZip-append (Makes s) (map plain ts) (map plain ws) (map plain us) (map plain vs) (length-map ts plain ∙ l ∙ sym (length-map ws plain))).0 zip).0)
+
+  -- nor beside others of which it matches some with some
+  pub unmatched_at : (ps ts : List FlatTerm) (i : ℕ) (p t : FlatTerm) → length ps ≡ length ts → i < length ps → p ≡ get_or ps i p → t ≡ get_or ts i t → HasNoMatcher d (p ∷ []) (t ∷ []) → HasNoMatcher d ps ts
+  unmatched_at [] ts i p t n l e f none s m = absurd (omega (arith, l))
+  unmatched_at (q ∷ ps) [] i p t n l e f none s m = absurd (omega (arith, n))
+  unmatched_at (q ∷ ps) (u ∷ ts) zero p t n l e f none s m =
+      none s (m.0, (subst (λ z. Makes s (plain z) (plain t)) (sym e) (subst (λ z. Makes s (plain q) (plain z)) (sym f) m.1.0), tt))
+  unmatched_at (q ∷ ps) (u ∷ ts) (suc i) p t n l e f none s m = unmatched_at ps ts i p t (omega (arith, n)) (omega (arith, l)) e f none s (m.0, m.1.1)
+
   module _ (a b : Variant) (alike : AreAlike a b) where
     same_length : length (map plain a.terms) ≡ length (map plain b.terms)
     same_length = length-map a.terms plain ∙ alike.terms ∙ sym (length-map b.terms plain)
@@ -122,6 +136,10 @@ module _ (d : Declarations) where
     pub found_covers : (o : Option Bindings) → IfSome o (Matches d (a.terms ++ values_of a) (b.terms ++ values_of b)) → (o ≡ None → HasNoMatcher d (a.terms ++ values_of a) (b.terms ++ values_of b)) → IsTrue (is_some o) ↔ CoversVariant d a b
     found_covers (Some s) m n = (λ t. matcher_covers (substitution s) m, λ h. refl)
     found_covers None m n = (λ t. cc, λ h. absurd (n refl h.by (covering_matches h)))
+
+    -- where no heads allow it, there is no covering
+    pub never_covers : HasNoMatcher d (a.terms ++ values_of a) (b.terms ++ values_of b) → CoversVariant d a b → ⊥
+    never_covers n h = n h.by (covering_matches h)
 
     -- where nothing matches, there is no covering
     pub refused : HasNoMatcher d (a.terms ++ values_of a) (b.terms ++ values_of b) → IsTrue false ↔ CoversVariant d a b

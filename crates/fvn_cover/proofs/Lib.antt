@@ -2,6 +2,7 @@
 mod CoverFacts
 pub mod Leftovers
 pub mod Additions
+mod Folded
 mod Prunings
 mod PieceFacts
 pub mod Ranges

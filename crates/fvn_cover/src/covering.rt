@@ -1,9 +1,10 @@
 //! Whether one variant covers another.
-ghost use Rattle.std.specs.Prelude.{◌≡◌, ◌↔◌, IsTrue, IfOk};
+ghost use Rattle.std.specs.Prelude.{◌≡◌, ◌↔◌, false, IsTrue, IfOk};
 ghost use Rattle.fvn_cover.specs.Covering.{values_of, CoversVariant, AreAlike, IsFlatVariant};
 ghost use Rattle.fvn_cover.specs.inner.Profiled.{IsProfiled, IsMarked};
 ghost use Rattle.fvn_cover_counts.specs.Marks.{AreUnkept};
 
+use crate::heads::may_match_all;
 use crate::keeping::Prepared;
 use crate::reach::may_reach_all;
 use crate::variant::Variant;
@@ -64,8 +65,23 @@ impl<'a> Shown<'a> {
         }
     }
 
+    // Whether heads leave it open of terms and values that they are instances of these.
+    fn have_heads_of(&self, sig: &Signature, other: &Shown<'_>) -> bool
+        requires alike { AreAlike self.now other.now }
+        requires this { IsFlatVariant sig.now self.now }
+        requires that { IsFlatVariant sig.now other.now }
+        ensures { result ≡ false → CoversVariant sig.now self.now other.now → ⊥ }
+    {
+        let terms = self.variant.terms.as_slice();
+        let others = other.variant.terms.as_slice();
+        if !may_match_all(sig, terms, others) {
+            return false;
+        }
+        may_match_all(sig, self.values, other.values)
+    }
+
     // Whether this one covers the other; most that do not are refused by their marks, others by the sorts of values
-    // that are variables, or by their profiles.
+    // that are variables, by their profiles, or by their heads.
     pub(crate) fn is_covering(
         &self,
         alloc: Global,
@@ -86,6 +102,9 @@ impl<'a> Shown<'a> {
             return Ok(false);
         }
         if !self.profile.may_cover(sig, other.profile) {
+            return Ok(false);
+        }
+        if !self.have_heads_of(sig, other) {
             return Ok(false);
         }
         let found = matches_both(

@@ -1,6 +1,7 @@
 //! Variants that are kept with the values of their variables, their profiles and their marks.
-ghost use Rattle.std.specs.Prelude.{◌≡◌, IfOk, All};
-ghost use Rattle.fvn_cover.specs.Covering.{values_of, IsFlatVariant};
+ghost use Rattle.std.specs.Prelude.{◌≡◌, ◌↔◌, IsTrue, IfOk, All};
+ghost use Rattle.fvn_cover_counts.specs.Marks.{AreUnkept};
+ghost use Rattle.fvn_cover.specs.Covering.{values_of, CoversVariant, AreAlike, IsFlatVariant};
 ghost use Rattle.fvn_cover.specs.inner.Profiled.{IsProfiled, IsMarked};
 
 use crate::covering::Shown;
@@ -103,6 +104,47 @@ impl Kept {
             &self.profile,
             self.marks,
         )
+    }
+
+    // Whether this one covers the other, by all that stands beside them.
+    fn is_covering_shown(
+        &self,
+        alloc: Global,
+        sig: &Signature,
+        out: Unkept,
+        other: &Kept,
+    ) -> Result<bool, NoMemory>
+        requires out { AreUnkept sig.now out }
+        requires alike { AreAlike self.now other.now }
+        requires this { IsFlatVariant sig.now self.now }
+        requires that { IsFlatVariant sig.now other.now }
+        ensures { IfOk result (λ r. IsTrue r ↔ CoversVariant sig.now self.now other.now) }
+    {
+        let first = self.shown();
+        let second = other.shown();
+        let r = first.is_covering(alloc, sig, out, &second)?;
+        Ok(r)
+    }
+
+    // Whether this one covers the other; the marks alone are looked at first, since they refuse most.
+    pub(crate) fn is_covering(
+        &self,
+        alloc: Global,
+        sig: &Signature,
+        out: Unkept,
+        other: &Kept,
+    ) -> Result<bool, NoMemory>
+        requires out { AreUnkept sig.now out }
+        requires alike { AreAlike self.now other.now }
+        requires this { IsFlatVariant sig.now self.now }
+        requires that { IsFlatVariant sig.now other.now }
+        ensures { IfOk result (λ r. IsTrue r ↔ CoversVariant sig.now self.now other.now) }
+    {
+        if !self.marks.may_cover(out, &other.marks) {
+            return Ok(false);
+        }
+        let r = self.is_covering_shown(alloc, sig, out, other)?;
+        Ok(r)
     }
 
     /// The variant alone.

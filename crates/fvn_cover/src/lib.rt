@@ -3,6 +3,7 @@
 
 mod covering;
 mod gate;
+mod heads;
 mod keeping;
 mod laws;
 mod marking;
@@ -20,5 +21,5 @@ pub use laws::{
 };
 pub use marking::{WORKERS, marks};
 pub use pieces::{piece_count, piece_start};
-pub use pruning::{prune, prune_kept, with_member};
+pub use pruning::{prune, prune_folded, prune_kept, with_member};
 pub use variant::{Variant, all_shared};

@@ -1,17 +1,14 @@
 //! Which candidates are covered, found by several workers.
-ghost use Rattle.std.specs.Prelude.{◌≡◌, ◌↔◌, ◌<◌, ◌≤◌, ◌++◌, length, IsTrue, IfOk, All};
+ghost use Rattle.std.specs.Prelude.{◌<◌, ◌≤◌, ◌++◌, length, IfOk};
 ghost use Rattle.std.specs.Thread.{IsSync};
 ghost use Rattle.fvn_cover.specs.declared.marking.TheConstants.{WORKERS};
-ghost use Rattle.fvn_cover.specs.Covering.{AreAlike, IsFlatVariant};
-ghost use Rattle.fvn_cover.specs.Pruning.{IsCoveredBySome};
 ghost use Rattle.fvn_cover.specs.Marks.{AreComparable, AreMarks};
 ghost use Rattle.fvn_cover.specs.Pieces.{IsRange};
 
-use crate::covering::Shown;
 use crate::gate::Gate;
 use crate::keeping::Kept;
 use crate::pieces::{piece_count, piece_start};
-use fvn_cover_counts::Unkept;
+use crate::pruning::is_covered;
 use fvn_signature::Signature;
 use fvn_terms::NoMemory;
 use std::alloc::Global;
@@ -31,26 +28,6 @@ struct Work<'a, G: Gate> {
     pieces: u32,
 }
 
-// Whether some kept variant covers the candidate.
-fn is_covered(
-    alloc: Global,
-    sig: &Signature,
-    kept: &[Kept],
-    candidate: &Shown<'_>,
-) -> Result<bool, NoMemory>
-    requires flat { IsFlatVariant sig.now candidate.now × All (IsFlatVariant sig.now) kept.now }
-    requires alike { All (λ k. AreAlike k candidate.now) kept.now }
-    ensures { IfOk result (λ r. IsTrue r ↔ IsCoveredBySome sig.now kept.now candidate.now) }
-{
-    let out = Unkept::of(sig);
-    for k in kept {
-        if k.shown().is_covering(alloc, sig, out, candidate)? {
-            return Ok(true);
-        }
-    }
-    Ok(false)
-}
-
 // The marks of candidates, one after another.
 fn marked(
     alloc: Global,
@@ -63,7 +40,7 @@ fn marked(
 {
     let mut marks = Vec::new(alloc);
     for c in candidates {
-        let mark = is_covered(alloc, sig, kept, &c.shown())?;
+        let mark = is_covered(alloc, sig, kept, c)?;
         marks.push(mark)?;
     }
     Ok(marks)

@@ -1,5 +1,5 @@
 //! Lists of variants without those that another one covers.
-ghost use Rattle.std.specs.Prelude.{◌≡◌, ◌↔◌, IsTrue, IfOk, All, Any};
+ghost use Rattle.std.specs.Prelude.{◌≡◌, ◌↔◌, IsTrue, IfOk, All, AllPairs, Any};
 ghost use Rattle.fvn_cover.specs.Covering.{CoversVariant, AreAlike, IsFlatVariant};
 ghost use Rattle.fvn_cover.specs.Pruning.{IsCoveredBySome, IsPruned};
 ghost use Rattle.fvn_cover.specs.Adding.{IsLeft, IsAdded};
@@ -13,14 +13,19 @@ use fvn_terms::NoMemory;
 use std::alloc::Global;
 
 // Whether some member of the list covers the variant.
-fn is_covered(alloc: Global, sig: &Signature, list: &[Kept], v: &Kept) -> Result<bool, NoMemory>
+pub(crate) fn is_covered(
+    alloc: Global,
+    sig: &Signature,
+    list: &[Kept],
+    v: &Kept,
+) -> Result<bool, NoMemory>
     requires flat { IsFlatVariant sig.now v.now × All (IsFlatVariant sig.now) list.now }
     requires alike { All (λ k. AreAlike k v.now) list.now }
     ensures { IfOk result (λ r. IsTrue r ↔ IsCoveredBySome sig.now list.now v.now) }
 {
     let out = Unkept::of(sig);
     for k in list {
-        if k.shown().is_covering(alloc, sig, out, &v.shown())? {
+        if k.is_covering(alloc, sig, out, v)? {
             return Ok(true);
         }
     }
@@ -35,7 +40,7 @@ fn covers_some(alloc: Global, sig: &Signature, list: &[Kept], v: &Kept) -> Resul
 {
     let out = Unkept::of(sig);
     for k in list {
-        if v.shown().is_covering(alloc, sig, out, &k.shown())? {
+        if v.is_covering(alloc, sig, out, k)? {
             return Ok(true);
         }
     }
@@ -56,7 +61,7 @@ fn without_covered(
     let mut left = Vec::new(alloc);
     let out = Unkept::of(sig);
     for k in list {
-        if !v.shown().is_covering(alloc, sig, out, &k.shown())? {
+        if !v.is_covering(alloc, sig, out, &k)? {
             left.push(k)?;
         }
     }
@@ -82,6 +87,23 @@ fn uncovered(
     Ok(left)
 }
 
+// The list with the variant, which none of its members covers, and without those that it covers.
+fn with_uncovered(
+    alloc: Global,
+    sig: &Signature,
+    list: Vec<Kept>,
+    v: Kept,
+) -> Result<Vec<Kept>, NoMemory>
+    requires flat { IsFlatVariant sig.now v × All (IsFlatVariant sig.now) list.items }
+    requires alike { All (λ k. AreAlike k v) list.items }
+    requires free { IsCoveredBySome sig.now list.items v → ⊥ }
+    ensures { IfOk result (λ after. IsAdded sig.now list.items v after.items) }
+{
+    let mut after = uncovered(alloc, sig, list, &v)?;
+    after.push(v)?;
+    Ok(after)
+}
+
 /// The list with the variant, if none of its members covers it, and then without those that it covers.
 ///
 /// The members are not copied, and moved only where it covers one.
@@ -98,8 +120,7 @@ pub fn with_member(
     if is_covered(alloc, sig, list.as_slice(), &v)? {
         return Ok(list);
     }
-    let mut after = uncovered(alloc, sig, list, &v)?;
-    after.push(v)?;
+    let after = with_uncovered(alloc, sig, list, v)?;
     Ok(after)
 }
 
@@ -126,6 +147,26 @@ pub fn prune_kept(alloc: Global, sig: &Signature, list: Vec<Kept>) -> Result<Vec
     let mut kept = Vec::new(alloc);
     for v in list {
         kept = with_member(alloc, sig, kept, v)?;
+    }
+    let vs = variants(alloc, kept)?;
+    Ok(vs)
+}
+
+/// The same of a list of which no member covers a later one: each is compared with those before it in one direction.
+pub fn prune_folded(
+    alloc: Global,
+    sig: &Signature,
+    list: Vec<Kept>,
+) -> Result<Vec<Variant>, NoMemory>
+    requires flat { All (IsFlatVariant sig.now) list.items }
+    requires alike { All (λ a. All (AreAlike a) list.items) list.items }
+    requires folded { AllPairs (λ a b. CoversVariant sig.now a b → ⊥) list.items }
+    ensures pruned { IfOk result (λ kept. IsPruned sig.now list.items kept.items) }
+{
+    covering_of_variants_is_a_preorder();
+    let mut kept = Vec::new(alloc);
+    for v in list {
+        kept = with_uncovered(alloc, sig, kept, v)?;
     }
     let vs = variants(alloc, kept)?;
     Ok(vs)

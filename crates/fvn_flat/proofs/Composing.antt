@@ -116,6 +116,20 @@ module _ (d : Declarations) where
       subst (λ (r : Var × FlatTerm). Settled d r.1) (sym is) first
   pair_settled (q ∷ s) h k (suc i) p within is = pair_settled s h.1 (tail_settled q s h k) i p (omega arith) is
 
+  -- and with the terms of the pairs alone
+  pub changed_fits : IsGood d → (s c : Bindings) → BindingsFit d s → BindingsFit d c → BindingsFit d (changed (inst d (value c)) s)
+  changed_fits good s c hs hc = record {
+    settled = λ x. one x (λ u. Settled d u) (eval_settled d (value c) hc.settled (plain (value s x))) tt;
+    keeps_kinds = λ x i. one x (λ u. HasKind d (plain u) (kind d x.sort)) (inst_of_kind d good (value c) hc (value s x) (kind d x.sort) (hs.keeps_kinds x i)) (i, refl);
+  }
+    where
+      one : (x : Var) (P : FlatTerm → Type 0) → P (inst d (value c) (value s x)) → P (fvar x) → P (value (changed (inst d (value c)) s) x)
+      one x P p q = subst (λ o. P (form_or x o)) (sym (bound-changed (inst d (value c)) s x)) (go (bound s x) p)
+        where
+          go : (o : Option FlatTerm) → P (inst d (value c) (form_or x o)) → P (form_or x (option_map (inst d (value c)) o))
+          go None p = q
+          go (Some t) p = p
+
 pub chosen_is_restriction : (vars : List Var) (s : Bindings) → IsRestriction vars s (chosen (listed vars) s)
 chosen_is_restriction vars s = record {
   kept = λ x h. bound-chosen (listed vars) s x ∙ ap (λ b. if b then bound s x else None) (listed_if vars x h);

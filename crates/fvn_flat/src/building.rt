@@ -121,7 +121,7 @@ fn joined(alloc: Global, sig: &Signature, f: OpId, mut summands: Vec<Flat>) -> F
 fn summed(alloc: Global, sig: &Signature, f: OpId, args: Vec<Flat>) -> Result<Flat, NoMemory>
     ensures { IfOk result (λ t. t ≡ sum sig.now f (all_parts sig.now f args.items)) }
 {
-    let mut summands = Vec::new(alloc);
+    let mut summands = Vec::with_capacity(alloc, args.len())?;
     for t in args {
         add_summands(alloc, sig, f, &mut summands, t)?;
     }

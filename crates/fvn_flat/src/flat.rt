@@ -105,7 +105,7 @@ impl Flat {
         match &self.node {
             Node::Var(x) => Ok(Flat::var(*x)),
             Node::App(f, joined, ts) => {
-                let mut items = Vec::new(alloc);
+                let mut items = Vec::with_capacity(alloc, ts.len())?;
                 for t in ts {
                     items.push(t.copy(alloc)?)?;
                 }

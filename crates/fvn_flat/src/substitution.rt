@@ -82,7 +82,7 @@ impl Subst {
     fn copied(&self, alloc: Global) -> Result<Vec<(Var, Flat)>, NoMemory>
         ensures { IfOk result (λ pairs. pairs.items ≡ self.now) }
     {
-        let mut pairs = Vec::new(alloc);
+        let mut pairs = Vec::with_capacity(alloc, self.pairs.len())?;
         for (x, t) in &self.pairs {
             let copy = t.copy(alloc)?;
             pairs.push((*x, copy))?;
@@ -100,6 +100,18 @@ impl Subst {
         let copy = t.copy(alloc)?;
         pairs.push((v, copy))?;
         Ok(Subst { pairs })
+    }
+
+    /// The same; neither this substitution nor the term is copied.
+    pub fn with_pair(self, v: Var, t: Flat) -> Result<Subst, NoMemory>
+        requires { bound self v ≡ None }
+        ensures { IfOk result (λ s. s ≡ self ++ (v, t) ∷ []) }
+    {
+        self.recall_bindings();
+        let Subst { pairs } = self;
+        let mut more = pairs;
+        more.push((v, t))?;
+        Ok(Subst { pairs: more })
     }
 
     /// The flat form of the term with all bound variables replaced at once.
@@ -135,12 +147,31 @@ impl Subst {
         requires then { SettledValues sig.now (value later.now) }
         ensures { IfOk result (λ pairs. pairs.items ≡ changed (inst sig.now (value later.now)) self.now) }
     {
-        let mut pairs = Vec::new(alloc);
+        let mut pairs = Vec::with_capacity(alloc, self.pairs.len())?;
         for (x, t) in &self.pairs {
             let u = later.instance(alloc, sig, t)?;
             pairs.push((*x, u))?;
         }
         Ok(pairs)
+    }
+
+    /// This substitution with the other one applied to its terms.
+    pub fn changed_by(
+        &self,
+        alloc: Global,
+        sig: &Signature,
+        later: &Subst,
+    ) -> Result<Subst, NoMemory>
+        requires first { BindingsFit sig.now self.now }
+        requires then { BindingsFit sig.now later.now }
+        ensures exact { IfOk result (λ s. s ≡ changed (inst sig.now (value later.now)) self.now) }
+        ensures fits { IfOk result (BindingsFit sig.now) }
+    {
+        sig.recall_good();
+        self.recall_bindings();
+        let pairs = self.changed(alloc, sig, later)?;
+        let s = Subst { pairs };
+        Ok(s)
     }
 
     // The pairs of another substitution for variables that are free here, at the end of some pairs.

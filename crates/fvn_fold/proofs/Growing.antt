@@ -2,7 +2,7 @@
 use Rattle.std.proofs.Common.{◌≡◌, ◌⊎◌, ℕ, ◌+◌, ◌≤◌, List, [], ◌∷◌, ◌++◌, length, get_or, map, sym, ap, ◌∙◌, subst, inl, inr, arith}
 use Rattle.std.specs.Prelude.{AllPairs, Contains}
 use Rattle.std.proofs.lemmas.List.{append-nil, append_assoc, length-append, map-append}
-use Rattle.std.proofs.lemmas.List.Elements.{Contains-get_or, Contains-append_left, Contains-append_right, Contains-append_cases}
+use Rattle.std.proofs.lemmas.List.Elements.{All-map, Contains-get_or, Contains-append_left, Contains-append_right, Contains-append_cases}
 use Rattle.std.proofs.lemmas.List.Kept.{AllPairs-cons}
 use Rattle.fvn_base.proofs.Membership.{contains_here, contains_later, contains_cases, contains_none, contains_map, map_contains}
 use Rattle.fvn_base.proofs.Pigeonhole.{AllPairs-tail, AllPairs-first}
@@ -38,6 +38,14 @@ module _ {A : Type 0} where
       AllPairs-cons R x front
       (λ k e l. AllPairs-first R x (front ++ back) (get_or front k e) h (Contains-append_left front back (get_or front k e) (Contains-get_or front k e l)))
       (pairs_front R front back (AllPairs-tail R x (front ++ back) h))
+
+-- what is read of each
+pub pairs_mapped : {A B : Type 0} (f : A → B) (R : B → B → Type 0) (xs : List A) → AllPairs (λ a b. R (f a) (f b)) xs → AllPairs R (map f xs)
+pairs_mapped f R [] h = λ i j d l m. absurd (omega (arith, m))
+pairs_mapped f R (x ∷ xs) h =
+    AllPairs-cons R (f x) (map f xs)
+    (All-map (R (f x)) f xs (λ k e l. AllPairs-first (λ a b. R (f a) (f b)) x xs (get_or xs k e) h (Contains-get_or xs k e l)))
+    (pairs_mapped f R xs (AllPairs-tail (λ a b. R (f a) (f b)) x xs h))
 
 module _ (g : Setting) (drawn : Problem → Substitution → Type 0) (start : List FlatTerm) where
   -- with some of the next level

@@ -1,16 +1,16 @@
 -- What the calls of one round ask of a run and of its next level.
 use Rattle.std.proofs.Common.{◌≡◌, ℕ, zero, suc, ◌+◌, ◌<◌, ◌≤◌, List, [], ◌∷◌, ◌++◌, length, get_or, take, drop, refl, sym, ap, ◌∙◌, subst, inl, inr, arith}
-use Rattle.std.specs.Prelude.{◌↔◌, ◌==◌, Bool, true, false, not, IsTrue, Vec, vec_len, All, Any, Contains}
+use Rattle.std.specs.Prelude.{◌↔◌, ◌==◌, Bool, true, false, not, IsTrue, Vec, vec_len, All, AllPairs, Any, Contains}
 use Rattle.std.proofs.lemmas.Bool.{false≢true}
 use Rattle.std.proofs.lemmas.Bool.Decides.{nat_tests}
-use Rattle.std.proofs.lemmas.List.{length-append, take-append-drop, drop_more, length-take-le, nil_from_length}
+use Rattle.std.proofs.lemmas.List.{append_assoc, length-append, take-append-drop, drop_more, length-take-le, nil_from_length}
 use Rattle.std.proofs.lemmas.List.Elements.{All-contains, Contains-append_left, Contains-append_right, Contains-append_cases}
 use Rattle.fvn_terms.specs.declared.declarations.Declarations.{Declarations}
 use Rattle.fvn_terms.specs.Substitution.{Substitution}
 use Rattle.fvn_terms.specs.Unifiers.{Problem}
 use Rattle.fvn_forms.specs.Flat.{FlatTerm}
 use Rattle.fvn_cover.specs.declared.variant.Variant.{Variant}
-use Rattle.fvn_cover.specs.Covering.{AreAlike, IsFlatVariant}
+use Rattle.fvn_cover.specs.Covering.{CoversVariant, AreAlike, IsFlatVariant}
 use Rattle.fvn_exploring.specs.declared.limits.Limits.{Limits}
 use Rattle.fvn_exploring.specs.declared.ends.ExpandEnd.{ExpandEnd}
 use Rattle.fvn_exploring.specs.declared.ends.ExpandEnd.TheVariants.{Whole}
@@ -22,7 +22,12 @@ use Rattle.fvn_fold.specs.inner.Running.{at_depth, LevelLists, IsExploredTo, Are
 use Rattle.fvn_fold.proofs.Gathers.{all_members}
 use Rattle.fvn_fold.proofs.Nexts.{kept_member, kept_like, child_member, child_like, all_alike}
 use Rattle.fvn_fold.proofs.Closed.{deep_kept, member_deep}
-use Rattle.fvn_fold.proofs.Turning.{goes_on}
+use Rattle.fvn_fold.proofs.Growing.{pairs_front}
+use Rattle.fvn_fold.proofs.Turning.{goes_on, next_folded}
+
+-- no member covers a later one
+abbrev FoldsLater : Declarations → List Variant → Type 0
+FoldsLater d list = AllPairs (λ a b. CoversVariant d a b → ⊥) list
 
 -- of a list that is kept, some are kept too
 pub kept_front : (d : Declarations) (kept front back : List Variant) → AreKept d (kept ++ (front ++ back)) → AreKept d (kept ++ front)
@@ -30,6 +35,7 @@ kept_front d kept front back h = record {
   flat = all_members (IsFlatVariant d) (kept ++ front) (λ v m. All-contains (IsFlatVariant d) (kept ++ (front ++ back)) v h.flat (wider v m));
   alike = all_members (λ a. All (AreAlike a) (kept ++ front)) (kept ++ front) (λ a m. all_members (AreAlike a) (kept ++ front) (λ b n.
       All-contains (AreAlike a) (kept ++ (front ++ back)) b (All-contains (λ a. All (AreAlike a) (kept ++ (front ++ back))) (kept ++ (front ++ back)) a h.alike (wider a m)) (wider b n)));
+  folded = pairs_front (λ a b. CoversVariant d a b → ⊥) (kept ++ front) back (subst (FoldsLater d) (sym (append_assoc kept front back)) h.folded);
 } where
   wider : (v : Variant) → Contains (kept ++ front) v → Contains (kept ++ (front ++ back)) v
   wider v m = elim (Contains-append_cases kept front v m) as (λ _. Contains (kept ++ (front ++ back)) v) [
@@ -43,6 +49,7 @@ kept_first d kept next h = record {
   flat = all_members (IsFlatVariant d) kept (λ v m. All-contains (IsFlatVariant d) (kept ++ next) v h.flat (Contains-append_left kept next v m));
   alike = all_members (λ a. All (AreAlike a) kept) kept (λ a m. all_members (AreAlike a) kept (λ b n.
       All-contains (AreAlike a) (kept ++ next) b (All-contains (λ a. All (AreAlike a) (kept ++ next)) (kept ++ next) a h.alike (Contains-append_left kept next a m)) (Contains-append_left kept next b n)));
+  folded = pairs_front (λ a b. CoversVariant d a b → ⊥) kept next h.folded;
 }
 
 module _ (g : Setting) (drawn : Problem → Substitution → Type 0) (start : List FlatTerm) (depth : ℕ) (r : LevelLists) (explored : IsExploredTo g drawn start depth r) where
@@ -69,11 +76,12 @@ module _ (g : Setting) (drawn : Problem → Substitution → Type 0) (start : Li
       | inr i ↦ child_member g r.kept explored.ready drawn r.members v (child v i)
     ]
 
-    -- what is kept with the next level is flat and alike
-    pub kept_with_next : (d : Declarations) → g.declarations ≡ d → AreKept d (r.kept ++ next)
-    kept_with_next d e = subst (λ d. AreKept d (r.kept ++ next)) e record {
+    -- what is kept with the next level is flat and alike, and none covers a later one
+    pub kept_with_next : (d : Declarations) (limits : Limits) → g.declarations ≡ d → AreKept d (r.kept ++ next)
+    kept_with_next d limits e = subst (λ d. AreKept d (r.kept ++ next)) e record {
       flat = all_members (IsFlatVariant g.declarations) (r.kept ++ next) (λ v m. (member v m).flat);
       alike = all_alike g r.kept explored.ready (r.kept ++ next) (r.kept ++ next) like like;
+      folded = next_folded g drawn start limits depth r explored next end h;
     }
 
     -- a longer run, within the limits

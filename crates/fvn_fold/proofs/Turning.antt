@@ -1,6 +1,6 @@
 -- What comes after a level: a longer run, or an outcome.
 use Rattle.std.proofs.Common.{◌≡◌, ◌⊎◌, ℕ, ◌≤◌, ◌<◌, ◌+◌, List, [], ◌∷◌, ◌++◌, length, map, refl, sym, ap, ◌∙◌, subst, inl, inr, arith}
-use Rattle.std.specs.Prelude.{Any, Contains}
+use Rattle.std.specs.Prelude.{AllPairs, Any, Contains}
 use Rattle.std.proofs.lemmas.List.{append-nil, append_assoc, length-append, map-append, length-map}
 use Rattle.std.proofs.lemmas.List.Elements.{All-contains, Contains-append_left, Contains-append_cases}
 use Rattle.fvn_base.proofs.Membership.{contains_here, map_contains}
@@ -31,7 +31,7 @@ use Rattle.fvn_fold.specs.inner.Gathering.{AreReady, IsNextLevel}
 use Rattle.fvn_fold.specs.inner.Running.{at_depth, LevelLists, deep_of, with_next, IsExploredTo, IsEndAtLevels, IsEndOfLast, IsEndFull, IsEndBelow, IsEnded}
 use Rattle.fvn_fold.proofs.Gathers.{all_members, member_of_any, any_member}
 use Rattle.fvn_fold.proofs.Nexts.{child_member, child_like}
-use Rattle.fvn_fold.proofs.Growing.{HasPlace, pairs_front, run_grown}
+use Rattle.fvn_fold.proofs.Growing.{HasPlace, pairs_front, pairs_mapped, run_grown}
 use Rattle.fvn_fold.proofs.Closed.{closed_more, closed_fewer, closed_all, bound, deep_kept, member_deep, closed_next}
 use Rattle.fvn_fold.proofs.Ends.{member_cause}
 use Rattle.fvn_fold.proofs.Outcomes.{IsOutcome, exploration, pruned_listed}
@@ -107,6 +107,14 @@ module _ (g : Setting) (drawn : Problem → Substitution → Type 0) (start : Li
       same : (l : List Variant) → map (λ (m : Deep). m.variant) (map (at_depth (depth + 1)) l) ≡ l
       same [] = refl
       same (v ∷ l) = ap (λ m. v ∷ m) (same l)
+
+  -- of what is kept with the next level none covers a later one
+  pub next_folded : AllPairs (λ a b. CoversVariant d a b → ⊥) (r.kept ++ next)
+  next_folded =
+      let all = run ++ below next in
+      let folded = (front_run next (λ w m. m) (h.is_next).apart).folded in
+      subst (AllPairs (λ a b. CoversVariant d a b → ⊥)) (variants_grown next)
+      (pairs_mapped (λ (m : Deep). m.variant) (λ a b. CoversVariant d a b → ⊥) all (λ i j e l m. (folded i j e l m).0))
 
   length_grown : (front : List Variant) → length (run ++ below front) ≡ length r.kept + length front
   length_grown front = sym (length-map (run ++ below front) (λ (m : Deep). m.variant)) ∙ ap length (variants_grown front) ∙ length-append r.kept front

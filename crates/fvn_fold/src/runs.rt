@@ -6,7 +6,7 @@ ghost use Rattle.fvn_fold.specs.inner.Running.{at_depth, lists_of, deep_of, with
 
 use crate::copying::copy;
 use fvn_base::Seq;
-use fvn_cover::{Kept, Variant, prune_kept};
+use fvn_cover::{Kept, Variant, prune_folded};
 use fvn_exploring::{Deep, ExploreEnd, Explored};
 use fvn_signature::Signature;
 use fvn_terms::NoMemory;
@@ -105,7 +105,7 @@ pub(crate) fn finish(
         kept,
     } = run;
     let all = with_depth(alloc, done, members, depth)?;
-    let given = prune_kept(alloc, sig, kept)?;
+    let given = prune_folded(alloc, sig, kept)?;
     Ok(Explored {
         kept: Seq::from_vec(all),
         variants: Seq::from_vec(given),

@@ -3,5 +3,6 @@ mod NewNames
 mod StartFacts
 pub mod ValueFacts
 mod RestFacts
+mod MovedFacts
 mod TriedFacts
 mod GrownFacts

@@ -1,13 +1,17 @@
 -- New variables for those of a list.
-use Rattle.std.proofs.Common.{◌≡◌, ℕ, ◌+◌, Bool, true, false, List, [], ◌∷◌, Some, refl, sym, ap, ◌∙◌, subst, inl, inr}
+use Rattle.std.proofs.Common.{◌≡◌, ℕ, ◌+◌, Bool, true, false, List, [], ◌∷◌, ◌++◌, Some, refl, sym, ap, ◌∙◌, subst, inl, inr}
 use Rattle.std.specs.Prelude.{◌||◌, ◌⊎◌, if◌then◌else◌, Contains}
+use Rattle.std.proofs.lemmas.List.Elements.{Contains-push_cases}
 use Rattle.fvn_base.proofs.Membership.{contains_here, contains_later, contains_cases, contains_none}
 use Rattle.fvn_terms.specs.declared.plain.Var.{Var}
-use Rattle.fvn_terms.specs.Substitution.{same_var, Occurs}
+use Rattle.fvn_terms.specs.Substitution.{same_var, Occurs, OccursAmong}
 use Rattle.fvn_terms.proofs.Variables.{same_var_is}
-use Rattle.fvn_forms.specs.Flat.{fvar, plain}
+use Rattle.fvn_forms.specs.Flat.{FlatTerm, FlatTerms, fvar, fapp, fnone, fmore, plain, plain_all}
 use Rattle.fvn_flat.specs.Bindings.{Bindings, bound, form_or, value}
-use Rattle.fvn_flat.specs.Variables.{listed, with_variables, fresh_for, renaming}
+use Rattle.fvn_flat.specs.Drawn.{OccursInValues}
+use Rattle.fvn_flat.specs.Solving.{substitution}
+use Rattle.fvn_flat.specs.Variables.{listed, with_variable, with_variables, with_all_variables, fresh_for, renaming}
+use Rattle.fvn_flat.proofs.Occurrences.{occurs_in_app}
 use Rattle.fvn_flat.proofs.ListedVariables.{Distinct, with_variables_distinct, still_listed, occurring_listed}
 use Rattle.fvn_narrow_children.specs.inner.Renaming.{value_variables}
 
@@ -60,3 +64,31 @@ occurring_in_values s (z ∷ vars) list x y c o = go (contains_cases z vars x c)
 pub values_distinct : (s : Bindings) (vars list : List Var) → Distinct list → Distinct (value_variables s vars list)
 values_distinct s [] list h = h
 values_distinct s (x ∷ vars) list h = values_distinct s vars (with_variables (value s x) list) (with_variables_distinct (value s x) list h)
+
+-- what is listed was there, or occurs in the form
+one_new : (list : List Var) (x y : Var) → Contains (with_variable list x) y → Contains list y ⊎ (x ≡ y)
+one_new list x y c = go (listed list x) c
+  where
+    go : (b : Bool) → Contains (if b then list else list ++ x ∷ []) y → Contains list y ⊎ (x ≡ y)
+    go true c = inl c
+    go false c = Contains-push_cases list x y c
+
+mutual
+  from_form : (t : FlatTerm) (list : List Var) (y : Var) → Contains (with_variables t list) y → Contains list y ⊎ Occurs y (plain t)
+  from_form (fvar x) list y c = elim (one_new list x y c) [ inl o ↦ inl o | inr e ↦ inr (sym e) ]
+  from_form (fapp f joined ts) list y c = elim (from_forms ts list y c) [ inl o ↦ inl o | inr o ↦ inr ((occurs_in_app y f joined ts).1 o) ]
+
+  from_forms : (ts : FlatTerms) (list : List Var) (y : Var) → Contains (with_all_variables ts list) y → Contains list y ⊎ OccursAmong y (plain_all ts)
+  from_forms fnone list y c = inl c
+  from_forms (fmore t ts) list y c = elim (from_forms ts (with_variables t list) y c) [
+    | inr o ↦ inr (inr o)
+    | inl o ↦ elim (from_form t list y o) [ inl a ↦ inl a | inr b ↦ inr (inl b) ]
+  ]
+
+-- or in the value of one of the variables
+pub from_values : (s : Bindings) (vars list : List Var) (y : Var) → Contains (value_variables s vars list) y → Contains list y ⊎ OccursInValues vars (substitution s) y
+from_values s [] list y c = inl c
+from_values s (x ∷ vars) list y c = elim (from_values s vars (with_variables (value s x) list) y c) [
+  | inr o ↦ inr (o.0, contains_later x vars o.0 o.1, o.2)
+  | inl k ↦ elim (from_form (value s x) list y k) [ inl a ↦ inl a | inr b ↦ inr (x, contains_here x vars, b) ]
+]

@@ -1,18 +1,18 @@
 -- Values under a substitution, and which of them are reducible.
-use Rattle.std.proofs.Common.{◌≡◌, ◌<◌, ◌-◌, ◌^◌, ℕ, Bool, List, None, Some, refl, sym, ap, ◌∙◌, subst, arith}
-use Rattle.std.specs.Prelude.{Contains, Option, is_some, min, IfSome}
+use Rattle.std.proofs.Common.{◌≡◌, ◌<◌, ◌-◌, ◌^◌, ℕ, Bool, true, false, List, None, Some, refl, sym, ap, ◌∙◌, subst, arith}
+use Rattle.std.specs.Prelude.{Contains, min, IsTrue}
 use Rattle.fvn_terms.specs.declared.plain.Var.{Var}
 use Rattle.fvn_terms.specs.declared.declarations.Declarations.{Declarations}
 use Rattle.fvn_terms.specs.Theory.{Equations}
 use Rattle.fvn_terms.specs.Signature.{kind, IsSort}
-use Rattle.fvn_terms.specs.Rewriting.{IsIrreducible}
+use Rattle.fvn_terms.specs.Rewriting.{IsReducible, IsIrreducible}
 use Rattle.fvn_forms.specs.Flat.{FlatTerm, plain, symbols}
 use Rattle.fvn_flat.specs.Bindings.{Bindings, bound, form_or, value, composed, BindingsFit, IsRestriction}
 use Rattle.fvn_flat.specs.Solving.{substitution}
 use Rattle.fvn_flat.proofs.Composing.{value-composed, restriction_fits}
 use Rattle.fvn_cover.specs.declared.variant.Variant.{Variant}
 use Rattle.fvn_rewrite_coherence.specs.Laws.{CoherenceLaws}
-use Rattle.fvn_rewrite_laws.specs.Normalised.{StepsTo, IsNormalForm}
+use Rattle.fvn_rewrite_laws.specs.Normalised.{IsNormalForm}
 use Rattle.fvn_narrow_children.specs.Values.{AreValuesUnder, IsLargeValue, ReducibleAs}
 
 pub values_of_restriction : (d : Declarations) (v : Variant) (s all r : Bindings) → all ≡ composed d v.subst s → BindingsFit d all → IsRestriction v.vars all r → AreValuesUnder d v s r
@@ -32,10 +32,10 @@ large_value_is vars s size counted x t u listed is copy count large = record {
 }
 
 module _ (d : Declarations) (equations : Equations) where
-  -- whether a step was found tells whether the form is reducible
-  pub reducible_as : (t : FlatTerm) (o : Option FlatTerm) → IfSome o (StepsTo d equations t) → (o ≡ None → IsNormalForm d equations t) → ReducibleAs d equations (plain t) (is_some o)
-  reducible_as t None some none = none refl
-  reducible_as t (Some u) some none = (plain u, some)
+  -- what a test tells
+  pub reducible_as : (t : FlatTerm) (b : Bool) → (IsTrue b → IsReducible d equations (plain t)) → (b ≡ false → IsNormalForm d equations t) → ReducibleAs d equations (plain t) b
+  reducible_as t true when unless = when refl
+  reducible_as t false when unless = unless refl
 
   pub bound_reducible_as : (s : Bindings) (x : Var) (t : FlatTerm) (b : Bool) → bound s x ≡ Some t → ReducibleAs d equations (plain t) b → ReducibleAs d equations (substitution s x) b
   bound_reducible_as s x t b is h = subst (λ o. ReducibleAs d equations (plain (form_or x o)) b) (sym is) h

@@ -8,15 +8,18 @@ ghost use Rattle.fvn_exploring.specs.declared.ends.ExpandEnd.TheVariants.{Whole}
 ghost use Rattle.fvn_narrow_children.specs.Values.{AreValuesUnder, AreIrreducible};
 ghost use Rattle.fvn_narrow_children.specs.Growing.{AreGrown};
 ghost use Rattle.fvn_narrow_children.specs.inner.Outcomes.{OutcomeAs, IsTaken};
+ghost use Rattle.fvn_narrow_children.specs.inner.Renaming.{value_variables};
 
 use crate::resting::{Rested, rest_all};
-use crate::values::{large_value, some_reducible, values_under};
+use crate::starts::value_names;
+use crate::values::{large_value, some_moved, some_reducible, values_under};
 use fvn_base::Seq;
 use fvn_cover::Variant;
 use fvn_exploring::{ExpandEnd, Expansion};
 use fvn_flat::{Flat, SizeCause, Subst};
 use fvn_rewrite::Rewriter;
-use fvn_terms::NoMemory;
+use fvn_rewrite_laws::sequences_are_lawful;
+use fvn_terms::{NoMemory, Var, rewriting_is_lawful};
 use std::alloc::Global;
 
 // What one unifier makes of a variant.
@@ -62,12 +65,14 @@ fn with_terms(
     }
 }
 
-// What one unifier makes of a variant: first its values are tested, and only then its terms brought to normal form.
+// What one unifier makes of a variant: first what it gives the variables of the values is tested, then its values, and
+// only then its terms are brought to normal form.
 fn tried(
     alloc: Global,
     rewriter: &Rewriter<'_>,
     size: u64,
     v: &Variant,
+    names: &[Var],
     members: &[Flat],
     s: &Subst,
 ) -> Result<Outcome, NoMemory>
@@ -77,8 +82,16 @@ fn tried(
     requires variant { IsFlatVariant rewriter.now.signature v.now }
     requires irreducible { AreIrreducible rewriter.now.signature (equations_by rewriter.now)
         v.now.vars v.now.subst }
+    requires names { names.now ≡ value_variables v.now.subst v.now.vars [] }
     ensures { IfOk result (OutcomeAs rewriter.now v.now members.now s.now) }
 {
+    rewriter.recall();
+    rewriting_is_lawful();
+    sequences_are_lawful();
+    let moved = some_moved(rewriter, names, s)?;
+    if moved {
+        return Ok(Outcome::Lost);
+    }
     let subst = values_under(alloc, rewriter.signature(), v, s)?;
     let vars = v.vars.as_slice();
     let lost = some_reducible(rewriter, vars, &v.subst, &subst)?;
@@ -130,9 +143,10 @@ pub fn grown(
         v.now.vars v.now.subst }
     ensures { IfOk result (AreGrown rewriter.now v.now members.now unifiers.now) }
 {
+    let names = value_names(alloc, v)?;
     let mut children = Vec::new(alloc);
     for s in unifiers {
-        let next = tried(alloc, rewriter, size, v, members, s)?;
+        let next = tried(alloc, rewriter, size, v, names.as_slice(), members, s)?;
         let (all, stop) = with_outcome(children, next)?;
         children = all;
         if let Some(end) = stop {

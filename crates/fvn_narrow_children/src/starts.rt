@@ -40,7 +40,7 @@ fn with_value(s: &Subst, x: Var, list: Vec<Var>) -> Result<Vec<Var>, NoMemory>
 }
 
 // The variables of the variant's values, in order of first occurrence.
-fn variables(alloc: Global, v: &Variant) -> Result<Vec<Var>, NoMemory>
+pub(crate) fn value_names(alloc: Global, v: &Variant) -> Result<Vec<Var>, NoMemory>
     ensures { IfOk result (λ all. all.items ≡ value_variables v.now.subst v.now.vars []) }
 {
     let mut all = Vec::new(alloc);
@@ -74,7 +74,7 @@ pub fn start_of(alloc: Global, sig: &Signature, v: &Variant) -> Result<Start, No
     requires holds { HoldsVariables v.now }
     ensures { IfOk result (λ start. IsStartOf sig.now start.next v.now start.variant) }
 {
-    let names = variables(alloc, v)?;
+    let names = value_names(alloc, v)?;
     if names.len() >= FIRST_FRESH as usize {
         return Err(NoMemory);
     }

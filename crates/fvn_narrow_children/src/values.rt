@@ -7,7 +7,7 @@ ghost use Rattle.fvn_flat.specs.Bindings.{value, BindingsFit};
 ghost use Rattle.fvn_flat.specs.Fits.{Fits, AllFit};
 ghost use Rattle.fvn_flat.specs.Solving.{substitution};
 ghost use Rattle.fvn_rewrite.specs.Usable.{equations_by};
-ghost use Rattle.fvn_narrow_children.specs.Values.{AreValuesUnder, IsLargeValue, ReducibleAs, AreIrreducible, AreReducibleAs};
+ghost use Rattle.fvn_narrow_children.specs.Values.{AreValuesUnder, IsLargeValue, ReducibleAs, AreIrreducible, HaveReducible, AreReducibleAs};
 
 use fvn_cover::Variant;
 use fvn_flat::{Flat, Subst};
@@ -81,8 +81,8 @@ fn steps_on(rewriter: &Rewriter<'_>, t: &Flat) -> Result<bool, NoMemory>
     ensures { IfOk result
         (ReducibleAs rewriter.now.signature (equations_by rewriter.now) (plain t.now)) }
 {
-    let found = rewriter.step(t)?;
-    Ok(found.is_some())
+    let is = rewriter.is_reducible(t)?;
+    Ok(is)
 }
 
 // Whether the value of the variable is reducible.
@@ -101,6 +101,26 @@ fn is_reducible(rewriter: &Rewriter<'_>, s: &Subst, x: Var) -> Result<bool, NoMe
         }
         None => Ok(false),
     }
+}
+
+// Whether the substitution gives one of these variables something reducible.
+pub(crate) fn some_moved(
+    rewriter: &Rewriter<'_>,
+    names: &[Var],
+    s: &Subst,
+) -> Result<bool, NoMemory>
+    requires sorts { All (λ x. IsSort rewriter.now.signature x.sort) names.now }
+    requires values { BindingsFit rewriter.now.signature s.now }
+    ensures { IfOk result (λ found. IsTrue found
+        → HaveReducible rewriter.now.signature (equations_by rewriter.now) names.now s.now) }
+{
+    for y in names {
+        let found = is_reducible(rewriter, s, *y)?;
+        if found {
+            return Ok(true);
+        }
+    }
+    Ok(false)
 }
 
 // Whether the variable has, with a form of its own, the value that it had.

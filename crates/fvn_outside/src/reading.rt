@@ -5,6 +5,7 @@ ghost use Rattle.fvn_outside.specs.Faults.{NeverFails, Rose};
 ghost use Rattle.fvn_outside.specs.Source.{Takes, TakesAtMost, TakesCount};
 
 use crate::failures::{ReadAll, ReadFailed};
+use fvn_base::limits::PIECE;
 use std::alloc::Global;
 
 /// Where bytes come from. A source that does not tell its bytes promises nothing of them.
@@ -28,9 +29,6 @@ pub trait Source {
         ensures uncounted { OnOk result (faults self.new ≡ faults self.old) }
         ensures never_falls { faults self.old ≤ faults self.new };
 }
-
-/// How many bytes `read_all` asks for at most in one read.
-const PIECE: usize = 4096;
 
 /// Reads all that is left, where that is `limit` bytes at most. At a refusal the bytes that were
 /// taken are gone.

@@ -34,7 +34,7 @@ item_at g (x ∷ l) (suc i) a e = item_at g l i a e
 
 module _ (d : Declarations) where
   -- an operator without identity has at least as many summands as arguments
-  many_parts : (f : OpId) → identity (axioms d f) ≡ None → (l : List FlatTerm) → AllByRecursion (Settled d) l → length l ≤ length (all_parts d f l)
+  pub many_parts : (f : OpId) → identity (axioms d f) ≡ None → (l : List FlatTerm) → AllByRecursion (Settled d) l → length l ≤ length (all_parts d f l)
   many_parts f no_identity [] h = omega arith
   many_parts f no_identity (t ∷ l) h =
       let some = some_length (parts d f t) (λ e. let p = parts_none d f t h.0 e in let q : Some p.0 ≡ None = sym p.1 ∙ no_identity in cc) in

@@ -1,2 +1,3 @@
 -- What private contracts speak of.
 pub mod Arguments
+pub mod Sums

@@ -20,10 +20,10 @@ use Rattle.fvn_flat.specs.Fits.{Fits, AllFit}
 use Rattle.fvn_flat.proofs.Fitting.{args_fit}
 use Rattle.fvn_flat.proofs.Instances.{each_at}
 use Rattle.fvn_refine.specs.inner.Rows.{Row, IsRow, IsRowBelow, HasAbove, IsAntichain}
-use Rattle.fvn_refine.specs.inner.Found.{AreArguments, AreSummands, Finds, IsUnder, AreUnder, IsResultUnder, IsSumUnder, IsPairUnder}
+use Rattle.fvn_refine.specs.inner.Found.{AreArguments, AreSummands, Finds, Narrows, IsUnder, AreUnder, IsResultUnder, IsSumUnder, IsPairUnder}
 use Rattle.fvn_refine.proofs.RowTests.{one_apart}
 use Rattle.fvn_refine.proofs.Sorts.{under_lower, over_through, over_leads, sum_through, sum_leads, is_unjoined, is_joined, summands_of, to_unjoined, from_unjoined, to_joined, from_joined}
-use Rattle.fvn_refine.proofs.Finding.{ForOne, finds_same, finds_none, finds_both}
+use Rattle.fvn_refine.proofs.Finding.{ForOne, finds_same, finds_none}
 
 module _ (d : Declarations) (xs : List Var) where
   -- what is found for the first of some forms: where the others, us, have their sorts, ss, then all have
@@ -35,19 +35,58 @@ module _ (d : Declarations) (xs : List Var) where
     pub fit : AllFit d us
     pub as_long : length us ≡ length ss
 
-  module _ (good : IsGood d) (way : Row) (ts : List FlatTerm) (args : List SortId) where
-    pub front_none : IsRow d xs way → AllFit d ts → length ts ≡ length args → (rows : List Row) → rows ≡ way ∷ [] → FindsFront way ts args ts args rows
-    front_none row fit long rows e = subst (FindsFront way ts args ts args) (sym e) (record {
-      within = λ m u. u;
+  -- one of the forms has its sort
+  under_at : (us : List FlatTerm) (ss : List SortId) (i : ℕ) (t : FlatTerm) (e : SortId) (m : Row) → AreUnder d xs us ss m → i < length us → IsUnder d xs (get_or us i t) (get_or ss i e) m
+  under_at [] ss i t e m h l = absurd (omega arith)
+  under_at (u ∷ us) [] i t e m h l = absurd h
+  under_at (u ∷ us) (s ∷ ss) zero t e m h l = h.0
+  under_at (u ∷ us) (s ∷ ss) (suc i) t e m h l = under_at us ss i t e m h.1 (omega arith)
+
+  module _ (way : Row) where
+    -- the way alone
+    pub narrow_start : (P : Row → Type 0) → IsRow d xs way → (rows : List Row) → rows ≡ way ∷ [] → Narrows d xs way P rows
+    narrow_start P row rows e = subst (Narrows d xs way P) (sym e) (record {
       found = λ r c. elim (contains_cases way [] r c) [
-        | inl f ↦ subst (λ q. IsRow d xs q × (IsRowBelow d q way × ((m : Row) → IsRow d xs m → IsRowBelow d m q → AreUnder d xs ts args m → AreUnder d xs ts args m))) f (row, (AllBelow-self d way, λ m i b u. u))
+        | inl f ↦ subst (λ q. IsRow d xs q × IsRowBelow d q way) f (row, AllBelow-self d way)
         | inr l ↦ absurd (contains_none r l)
       ];
       covers = λ m i b u. (way, (contains_here way [], b));
       apart = one_apart d way;
+    })
+
+    -- what is found
+    pub narrow_found : (P : Row → Type 0) (rows : List Row) → Finds d xs (λ m. IsRowBelow d m way × P m) rows → Narrows d xs way P rows
+    narrow_found P rows h = record {
+      found = λ r c. let f = h.found r c in (f.0, f.1.0);
+      covers = λ m i b p. h.covers m i (b, p);
+      apart = h.apart;
+    }
+
+    -- rows below these at which one of the forms has its sort
+    pub narrow_next : (ts : List FlatTerm) (args : List SortId) (i : ℕ) (t : FlatTerm) (e : SortId) → i < length ts → t ≡ get_or ts i t → (rows list all : List Row) → list ≡ rows →
+        Narrows d xs way (AreUnder d xs ts args) rows → Finds d xs (λ m. HasAbove d list m × IsUnder d xs t (get_or args i e) m) all → Narrows d xs way (AreUnder d xs ts args) all
+    narrow_next ts args i t e within is rows list all same h k = record {
+      found = λ r c.
+          let f = k.found r c in
+          let o = h.found f.1.0.0 (subst (λ l. Contains l f.1.0.0) same f.1.0.1.0) in
+          (f.0, AllBelow-trans d r f.1.0.0 way f.1.0.1.1 o.1);
+      covers = λ m j b u. k.covers m j (
+        subst (λ l. HasAbove d l m) (sym same) (h.covers m j b u),
+        subst (λ v. IsUnder d xs v (get_or args i e) m) (sym is) (under_at ts args i t e m u within),
+      );
+      apart = k.apart;
+    }
+
+  module _ (good : IsGood d) (way : Row) (ts : List FlatTerm) (args : List SortId) where
+    pub front_none : AllFit d ts → length ts ≡ length args → (rows : List Row) → Narrows d xs way (AreUnder d xs ts args) rows → FindsFront way ts args ts args rows
+    front_none fit long rows h = record {
+      within = λ m u. u;
+      found = λ r c. let f = h.found r c in (f.0, (f.1, λ m i b u. u));
+      covers = h.covers;
+      apart = h.apart;
       fit = fit;
       as_long = long;
-    })
+    }
 
     pub front_more : (t : FlatTerm) (us : List FlatTerm) (s : SortId) (ss : List SortId) (rows all : List Row) → FindsFront way ts args (t ∷ us) (s ∷ ss) rows →
         Finds d xs (λ m. HasAbove d rows m × IsUnder d xs t s m) all → FindsFront way ts args us ss all
@@ -112,15 +151,26 @@ module _ (d : Declarations) (xs : List Var) where
       two (a ∷ b ∷ []) m h = refl
       two (a ∷ b ∷ c ∷ ss) m h = absurd h
 
-  -- a pair, from the last form and then the sum of the first ones
-  pub pair_found : IsGood d → (way : Row) (f : OpId) (front : List FlatTerm) (last : FlatTerm) → Fits d last → (a b : SortId) (args : List SortId) → args ≡ a ∷ b ∷ [] → (rows all : List Row) →
-      Finds d xs (λ m. IsRowBelow d m way × IsUnder d xs last b m) rows → Finds d xs (λ m. HasAbove d rows m × IsSumUnder d xs f front a m) all →
+  -- a pair: from rows that have above them all where the sum of the first forms has its sort, the last form, and then that sum
+  pub pair_found : IsGood d → (way : Row) (f : OpId) (front : List FlatTerm) (last : FlatTerm) → Fits d last → (a b : SortId) (args : List SortId) → args ≡ a ∷ b ∷ [] → (start rows all : List Row) →
+      Narrows d xs way (IsSumUnder d xs f front a) start →
+      Finds d xs (λ m. HasAbove d start m × IsUnder d xs last b m) rows → Finds d xs (λ m. HasAbove d rows m × IsSumUnder d xs f front a m) all →
       Finds d xs (λ m. IsRowBelow d m way × IsPairUnder d xs f front last args m) all
-  pair_found good way f front last fits a b args e rows all h k =
-      subst (λ ss. Finds d xs (λ m. IsRowBelow d m way × IsPairUnder d xs f front last ss m) all) (sym e)
-      (finds_both d xs (λ m. IsRowBelow d m way × IsUnder d xs last b m) (IsSumUnder d xs f front a) (λ m. IsRowBelow d m way × IsPairUnder d xs f front last (a ∷ b ∷ []) m)
-      (λ m r im ir below p. (AllBelow-trans d m r way below p.0, under_lower d good xs last fits b m r im ir below p.1)) rows all h k
-      (λ m p. (p.0.0, (p.1, p.0.1))) (λ m q. ((q.0, q.1.1), q.1.0)))
+  pair_found good way f front last fits a b args e start rows all n h k = subst (λ ss. Finds d xs (λ m. IsRowBelow d m way × IsPairUnder d xs f front last ss m) all) (sym e) both
+    where
+      there : (r : Row) → IsRow d xs r × (HasAbove d rows r × IsSumUnder d xs f front a r) → IsRow d xs r × (IsRowBelow d r way × (IsSumUnder d xs f front a r × IsUnder d xs last b r))
+      there r w =
+          let q = h.found w.1.0.0 w.1.0.1.0 in
+          let o = n.found q.1.0.0 q.1.0.1.0 in
+          let below = AllBelow-trans d r w.1.0.0 q.1.0.0 w.1.0.1.1 q.1.0.1.1 in
+          (w.0, (AllBelow-trans d r q.1.0.0 way below o.1, (w.1.1, under_lower d good xs last fits b r w.1.0.0 w.0 q.0 w.1.0.1.1 q.1.1)))
+
+      both : Finds d xs (λ m. IsRowBelow d m way × IsPairUnder d xs f front last (a ∷ b ∷ []) m) all
+      both = record {
+        found = λ r c. there r (k.found r c);
+        covers = λ m i p. k.covers m i (h.covers m i (n.covers m i p.0 p.1.0, p.1.1), p.1.0);
+        apart = k.apart;
+      }
 
   module _ (good : IsGood d) (way : Row) (f : OpId) (s : SortId) where
     -- an operator over forms, from its argument lists

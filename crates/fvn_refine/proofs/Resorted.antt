@@ -1,10 +1,8 @@
 -- Substitutions at the sorts of a row.
-use Rattle.std.proofs.Common.{◌≡◌, ◌⊎◌, Bool, true, false, List, [], ◌∷◌, ◌++◌, map, length, Option, Some, None, refl, sym, ap, ◌∙◌, subst, inl, inr, arith}
-use Rattle.std.specs.List.{Contains}
+use Rattle.std.proofs.Common.{◌≡◌, ◌⊎◌, Bool, true, false, List, [], ◌∷◌, ◌++◌, length, Option, Some, None, refl, sym, ap, ◌∙◌, subst, inl, inr, arith}
 use Rattle.std.specs.Option.{option_map, is_some}
 use Rattle.std.specs.Prelude.{◌||◌, if◌then◌else◌}
 use Rattle.std.proofs.lemmas.Bool.{true≢false, false≢true}
-use Rattle.fvn_base.proofs.Membership.{contains_here, contains_later, contains_cases, contains_none}
 use Rattle.fvn_terms.specs.declared.plain.Var.{Var}
 use Rattle.fvn_terms.specs.declared.plain.SortId.{SortId}
 use Rattle.fvn_terms.specs.declared.declarations.Declarations.{Declarations}
@@ -13,7 +11,7 @@ use Rattle.fvn_terms.specs.Signature.{kind, IsSort}
 use Rattle.fvn_terms.specs.Substitution.{same_var, Occurs, OccursAmong}
 use Rattle.fvn_forms.specs.Flat.{FlatTerm, fvar, plain}
 use Rattle.fvn_forms.specs.Canon.{build, eval, eval_all, inst}
-use Rattle.fvn_flat.specs.Bindings.{Bindings, bound, form_or, value, BindingsFit, IsRestriction, composed, changed, chosen, is_free}
+use Rattle.fvn_flat.specs.Bindings.{Bindings, bound, form_or, value, BindingsFit, changed}
 use Rattle.fvn_flat.specs.Variables.{listed}
 use Rattle.fvn_flat.proofs.Binding.{same_var_is, or_else, bound-append, bound_first}
 use Rattle.fvn_flat.proofs.Composing.{bound-changed, bind_fits, empty_fits}
@@ -84,25 +82,6 @@ resorted_ended s (y ∷ ys) (w ∷ ws) (inr e) = absurd (omega arith)
 pub value_resorting : (ys : List Var) (ws : Row) (y : Var) (e : SortId) → length ys ≡ length ws → listed ys y ≡ true → value (resorting ys ws) y ≡ there y (beside ys ws y e)
 value_resorting ys ws y e long l = ap (form_or y) (all_new ys ws [] y e long refl l)
 
-bound_named : (s : Bindings) (x : Var) (t : FlatTerm) → bound s x ≡ Some t → Contains (map (λ p. p.0) s) x
-bound_named [] x t e = cc
-bound_named (p ∷ s) x t e = go (same_var p.0 x) refl (bound_named s x t)
-  where
-    go : (b : Bool) → same_var p.0 x ≡ b → (bound s x ≡ Some t → Contains (map (λ p. p.0) s) x) → Contains (p.0 ∷ map (λ p. p.0) s) x
-    go true f rest = subst (Contains (p.0 ∷ map (λ p. p.0) s)) (same_var_is p.0 x f) (contains_here p.0 (map (λ p. p.0) s))
-    go false f rest = contains_later p.0 (map (λ p. p.0) s) x (rest (ap (λ b. if b then Some p.1 else bound s x) (sym f) ∙ e))
-
-named_bound : (s : Bindings) (x : Var) → bound s x ≡ None → Contains (map (λ p. p.0) s) x → ⊥
-named_bound [] x e c = contains_none x c
-named_bound (p ∷ s) x e c = go (same_var p.0 x) refl (named_bound s x)
-  where
-    first : p.0 ≡ x → ⊥
-    first q = let f : Some p.1 ≡ None = sym (bound_first p s) ∙ ap (bound (p ∷ s)) q ∙ e in cc
-
-    go : (b : Bool) → same_var p.0 x ≡ b → (bound s x ≡ None → Contains (map (λ p. p.0) s) x → ⊥) → ⊥
-    go true f rest = first (same_var_is p.0 x f)
-    go false f rest = elim (contains_cases p.0 (map (λ p. p.0) s) x c) [ inl q ↦ first q | inr l ↦ rest (ap (λ b. if b then Some p.1 else bound s x) (sym f) ∙ e) l ]
-
 module _ (d : Declarations) where
   -- an instance depends on the variables that occur
   mutual
@@ -130,25 +109,21 @@ module _ (d : Declarations) where
   pub resorting_fits : (ys : List Var) (ws : Row) → IsRow d ys ws → BindingsFit d (resorting ys ws)
   resorting_fits ys ws h = all_fit ys ws [] h (empty_fits d)
 
-  -- the substitution after the variables were put at their sorts, without the variables themselves
-  pub resorted_is : (s r places whole : Bindings) (ys names : List Var) (ws : Row) → ys ≡ variables_of_terms s → IsRow d ys ws → names ≡ map (λ p. p.0) s → places ≡ resorting ys ws → whole ≡ composed d s places → IsRestriction names whole r →
-      IsAtSorts d s (way_of d ys ws) r
-  resorted_is s r places whole ys names ws vars row named placed is h x = go (bound s x) refl
+  -- the substitution after the variables were put at their sorts
+  pub resorted_is : (s r places : Bindings) (ys : List Var) (ws : Row) → ys ≡ variables_of_terms s → IsRow d ys ws → places ≡ resorting ys ws → r ≡ changed (inst d (value places)) s → IsAtSorts d s (way_of d ys ws) r
+  resorted_is s r places ys ws vars row placed is x = go (bound s x) refl
     where
       c : Bindings
       c = resorting ys ws
 
-      whole_is : whole ≡ composed d s c
-      whole_is = is ∙ ap (composed d s) placed
+      found : bound r x ≡ option_map (inst d (value c)) (bound s x)
+      found = ap (λ z. bound z x) (is ∙ ap (λ (z : Bindings). changed (inst d (value z)) s) placed) ∙ bound-changed (inst d (value c)) s x
 
       go : (o : Option FlatTerm) → bound s x ≡ o → bound r x ≡ option_map (inst d (λ y. fvar (at_sort (way_of d ys ws) y))) (bound s x)
       go None e =
-          h.others x (λ k. named_bound s x e (subst (λ z. Contains z x) named k))
-          ∙ ap (option_map (inst d (λ y. fvar (at_sort (way_of d ys ws) y)))) (sym e)
+          found ∙ ap (option_map (inst d (value c))) e ∙ ap (option_map (inst d (λ y. fvar (at_sort (way_of d ys ws) y)))) (sym e)
       go (Some t) e =
-          h.kept x (subst (λ z. Contains z x) (sym named) (bound_named s x t e))
-          ∙ ap (λ z. bound z x) whole_is
-          ∙ bound-append (changed (inst d (value c)) s) (chosen (is_free s) c) x
-          ∙ ap (λ o. or_else o (bound (chosen (is_free s) c) x)) (bound-changed (inst d (value c)) s x ∙ ap (option_map (inst d (value c))) e)
+          found
+          ∙ ap (option_map (inst d (value c))) e
           ∙ ap Some (eval_agrees (value c) (λ y. fvar (at_sort (way_of d ys ws) y)) (plain t) (λ y o. value_resorting ys ws y (kind d y.sort) (row_long d ys ws row) (subst (λ z. listed z y ≡ true) (sym vars) (occurs_in_terms s x y t e o))))
           ∙ ap (option_map (inst d (λ y. fvar (at_sort (way_of d ys ws) y)))) (sym e)

@@ -135,6 +135,13 @@ module _ (d : Declarations) where
             both r q below (inr g) (inr f) = sym g ∙ f
 
   -- several more
+  -- one row where there is none
+  pub with_rows-first : (rows more : List Row) → length rows ≡ 0 → length more ≡ 1 → more ≡ with_rows d rows more
+  with_rows-first [] [] e f = absurd (omega (arith, f))
+  with_rows-first [] (row ∷ []) e f = refl
+  with_rows-first [] (row ∷ next ∷ more) e f = absurd (omega (arith, f))
+  with_rows-first (row ∷ rows) more e f = absurd (omega (arith, e))
+
   pub with_rows-push : (rows more : List Row) (row : Row) → with_rows d rows (more ++ row ∷ []) ≡ with_row d (with_rows d rows more) row
   with_rows-push rows [] row = refl
   with_rows-push rows (m ∷ more) row = with_rows-push (with_row d rows m) more row

@@ -10,6 +10,7 @@ ghost use Rattle.fvn_refine.specs.inner.Found.{
   AreSummands,
   AreRows,
   Finds,
+  Narrows,
   IsUnder,
   AreUnder,
   IsResultUnder,
@@ -61,6 +62,35 @@ fn pair_of(row: &[SortId]) -> Option<(SortId, SortId)>
         return None;
     }
     Some((row[0], row[1]))
+}
+
+// The place of the largest of the terms; past them where they are tried with one list of sorts alone.
+fn largest(ts: &[Flat], lists: usize) -> usize {
+    let mut place = ts.len();
+    if lists < 2 {
+        return place;
+    }
+    let mut most: u64 = 0;
+    for (i, t) in ts.iter().enumerate() {
+        let size = t.size();
+        if most <= size {
+            most = size;
+            place = i;
+        }
+    }
+    place
+}
+
+// Whether a term that is tried with several lists of sorts is larger than the others together.
+fn is_larger(t: &Flat, others: &[Flat], lists: usize) -> bool {
+    if lists < 2 {
+        return false;
+    }
+    let mut size: u64 = 0;
+    for u in others {
+        size = size.saturating_add(u.size());
+    }
+    size < t.size()
 }
 
 impl Search<'_> {
@@ -165,6 +195,36 @@ impl Search<'_> {
         Ok(all)
     }
 
+    // Rows at or below this one that have above them all at which each term has the sort in its place or one below it: all
+    // terms but the largest have their sorts there. So a list that a small term refuses is not tried with a large one.
+    #[cycle(lower)]
+    fn narrowed(
+        &self,
+        way: &[SortId],
+        ts: &[Flat],
+        args: &[SortId],
+        large: usize,
+    ) -> Result<Vec<Seq<SortId>>, NoMemory>
+        requires row { IsRow self.now.sig.now self.now.vars.now way.now }
+        requires terms { AllFit self.now.sig.now ts.now }
+        requires long { length ts.now ≡ length args.now }
+        ensures { IfOk result (λ rows.
+            Narrows self.now.sig.now self.now.vars.now way.now
+            (AreUnder self.now.sig.now self.now.vars.now ts.now args.now) rows.items) }
+    {
+        let mut rows = alone(self.alloc, way)?;
+        if large >= ts.len() {
+            return Ok(rows);
+        }
+        for (i, t) in ts.iter().enumerate() {
+            if i == large {
+                continue;
+            }
+            rows = self.lower_rows(rows.as_slice(), t, args[i])?;
+        }
+        Ok(rows)
+    }
+
     // The rows at or below this one at which each term has the sort in its place or one below it.
     #[cycle(lower)]
     fn lower_all(
@@ -172,6 +232,7 @@ impl Search<'_> {
         way: &[SortId],
         ts: &[Flat],
         args: &[SortId],
+        large: usize,
     ) -> Result<Vec<Seq<SortId>>, NoMemory>
         requires row { IsRow self.now.sig.now self.now.vars.now way.now }
         requires terms { AllFit self.now.sig.now ts.now }
@@ -182,7 +243,7 @@ impl Search<'_> {
         if ts.len() != args.len() {
             return Ok(Vec::new(self.alloc));
         }
-        let mut rows = alone(self.alloc, way)?;
+        let mut rows = self.narrowed(way, ts, args, large)?;
         for (i, t) in ts.iter().enumerate() {
             rows = self.lower_rows(rows.as_slice(), t, args[i])?;
         }
@@ -205,9 +266,10 @@ impl Search<'_> {
     {
         self.sig.recall_good();
         let lists = arguments(self.alloc, self.sig, f, s)?;
+        let large = largest(ts, lists.len());
         let mut all = Vec::new(self.alloc);
         for args in lists.as_slice() {
-            let more = self.lower_all(way, ts, args.as_slice())?;
+            let more = self.lower_all(way, ts, args.as_slice(), large)?;
             all = with_rows(self.alloc, self.sig, all, more)?;
         }
         Ok(all)
@@ -236,12 +298,37 @@ impl Search<'_> {
         }
         let front = &ts[..last];
         let lists = arguments(self.alloc, self.sig, f, s)?;
+        let large = is_larger(end, front, lists.len());
         let mut all = Vec::new(self.alloc);
         for args in lists.as_slice() {
-            let more = self.lower_pair(way, f, front, &*end, args.as_slice())?;
+            let more = self.lower_pair(way, f, front, &*end, args.as_slice(), large)?;
             all = with_rows(self.alloc, self.sig, all, more)?;
         }
         Ok(all)
+    }
+
+    // Rows at or below this one that have above them all at which the sum of the terms has the sort or one below it: those at
+    // which it has, where what comes next is large.
+    #[cycle(lower)]
+    fn narrowed_sum(
+        &self,
+        way: &[SortId],
+        f: OpId,
+        ts: &[Flat],
+        s: SortId,
+        large: bool,
+    ) -> Result<Vec<Seq<SortId>>, NoMemory>
+        requires row { IsRow self.now.sig.now self.now.vars.now way.now }
+        requires sum { AreSummands self.now.sig.now f ts.now }
+        ensures { let d = self.now.sig.now in let xs = self.now.vars.now in
+            IfOk result (λ rows. Narrows d xs way.now (IsSumUnder d xs f ts.now s) rows.items) }
+    {
+        if !large {
+            let rows = alone(self.alloc, way)?;
+            return Ok(rows);
+        }
+        let rows = self.lower_sum(way, f, ts, s)?;
+        Ok(rows)
     }
 
     // The rows at or below this one at which the sum of the first terms, and the last one, have the two sorts.
@@ -253,6 +340,7 @@ impl Search<'_> {
         front: &[Flat],
         last: &Flat,
         args: &[SortId],
+        large: bool,
     ) -> Result<Vec<Seq<SortId>>, NoMemory>
         requires row { IsRow self.now.sig.now self.now.vars.now way.now }
         requires sum { AreSummands self.now.sig.now f front.now }
@@ -265,7 +353,8 @@ impl Search<'_> {
             None => return Ok(Vec::new(self.alloc)),
             Some(pair) => pair,
         };
-        let rows = self.lower(way, &*last, pair.1)?;
+        let start = self.narrowed_sum(way, f, front, pair.0, large)?;
+        let rows = self.lower_rows(start.as_slice(), last, pair.1)?;
         let all = self.lower_sum_rows(rows.as_slice(), f, front, pair.0)?;
         Ok(all)
     }

@@ -1,5 +1,5 @@
 //! Substitutions with their variables at the sorts of a row.
-ghost use Rattle.std.specs.Prelude.{◌≡◌, map, IfOk, All, is_some};
+ghost use Rattle.std.specs.Prelude.{◌≡◌, IfOk, All, is_some};
 ghost use Rattle.std.specs.List.{AllZip};
 ghost use Rattle.fvn_flat.specs.Bindings.{bound, BindingsFit};
 ghost use Rattle.fvn_refine.specs.Refinements.{variables_of_terms, IsAtSorts};
@@ -21,7 +21,7 @@ fn is_bound(subst: &Subst, y: Var) -> bool
 }
 
 // The substitution with the variable at the sort, if it binds it not yet.
-fn with_resorted(alloc: Global, resorting: Subst, y: Var, w: SortId) -> Result<Subst, NoMemory>
+fn with_resorted(resorting: Subst, y: Var, w: SortId) -> Result<Subst, NoMemory>
     ensures { IfOk result (λ all. all ≡ with_resorted resorting y w) }
 {
     if is_bound(&resorting, y) {
@@ -32,7 +32,7 @@ fn with_resorted(alloc: Global, resorting: Subst, y: Var, w: SortId) -> Result<S
         sort: w,
         fresh: y.fresh,
     });
-    let all = resorting.bind(alloc, y, &there)?;
+    let all = resorting.with_pair(y, there)?;
     Ok(all)
 }
 
@@ -42,19 +42,7 @@ fn resorting(alloc: Global, vars: &[Var], row: &[SortId]) -> Result<Subst, NoMem
 {
     let mut all = Subst::empty(alloc);
     for (y, w) in vars.iter().zip(row.iter()) {
-        all = with_resorted(alloc, all, *y, *w)?;
-    }
-    Ok(all)
-}
-
-// The variables that the substitution binds.
-fn bound_variables(alloc: Global, subst: &Subst) -> Result<Vec<Var>, NoMemory>
-    ensures { IfOk result (λ all. all.items ≡ map (λ p. p.0) subst.now) }
-{
-    let mut all = Vec::new(alloc);
-    for i in 0..subst.len() {
-        let (x, _) = subst.pair(i);
-        all.push(x)?;
+        all = with_resorted(all, *y, *w)?;
     }
     Ok(all)
 }
@@ -74,10 +62,8 @@ pub(crate) fn resorted(
     ensures fit { IfOk result (BindingsFit sig.now) }
 {
     sig.recall_good();
-    let names = bound_variables(alloc, subst)?;
     let places = resorting(alloc, vars, row)?;
-    let whole = subst.compose(alloc, sig, &places)?;
-    let all = whole.restrict(alloc, names.as_slice())?;
+    let all = subst.changed_by(alloc, sig, &places)?;
     Ok(all)
 }
 

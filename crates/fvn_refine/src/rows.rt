@@ -1,5 +1,5 @@
 //! Rows of sorts, of which those that are below another are left out.
-ghost use Rattle.std.specs.Prelude.{◌≡◌, [], ◌∷◌, not, IfOk};
+ghost use Rattle.std.specs.Prelude.{◌≡◌, [], ◌∷◌, not, length, IsTrue, IfOk};
 ghost use Rattle.std.specs.List.{filter, list_any};
 ghost use Rattle.fvn_forms.specs.SortOrder.{at_or_below};
 ghost use Rattle.fvn_refine.specs.inner.Rows.{is_row_below, with_row, with_rows};
@@ -80,6 +80,16 @@ pub(crate) fn with_row(
     Ok(all)
 }
 
+// Whether there is no row yet, and one more.
+fn is_first(rows: &[Seq<SortId>], more: &[Seq<SortId>]) -> bool
+    ensures { IsTrue result → (length rows.now ≡ 0) × (length more.now ≡ 1) }
+{
+    if !rows.is_empty() {
+        return false;
+    }
+    more.len() == 1
+}
+
 // The rows with more of them, but for those below another.
 pub(crate) fn with_rows(
     alloc: Global,
@@ -89,6 +99,9 @@ pub(crate) fn with_rows(
 ) -> Result<Vec<Seq<SortId>>, NoMemory>
     ensures { IfOk result (λ all. all.items ≡ with_rows sig.now rows.items more.items) }
 {
+    if is_first(rows.as_slice(), more.as_slice()) {
+        return Ok(more);
+    }
     let mut all = rows;
     for row in more {
         all = with_row(alloc, sig, all, row)?;

@@ -2,6 +2,7 @@
 mod Roots
 mod Placed
 mod Found
+mod Tested
 mod Replacing
 mod Reaching
 mod Ending

@@ -1,6 +1,7 @@
 -- What mirrors the code.
 pub mod Trying
 pub mod Walking
+pub mod Testing
 pub mod Turns
 pub mod SortedTerms
 pub mod SortedCode

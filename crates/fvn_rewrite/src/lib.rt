@@ -9,6 +9,7 @@ mod rewriter;
 mod root;
 mod shared;
 mod stepping;
+mod testing;
 mod walking;
 
 pub use normalising::normal;

@@ -6,6 +6,7 @@ ghost use Rattle.fvn_rewrite.specs.Usable.{AreUsable};
 ghost use Rattle.fvn_rewrite.specs.inner.Making.{AreStepRules, IsBegun};
 
 use crate::making::{Pass, make};
+use fvn_base::limits::DEPTH;
 use fvn_flat::{Flat, flatten};
 use fvn_rewrite_laws::{kinded_theories_are_lawful, rules_are_lawful, sequences_are_lawful};
 use fvn_rewrite_rules::Rules;
@@ -13,9 +14,6 @@ use fvn_signature::Signature;
 use fvn_terms::{NoMemory, rewriting_is_lawful};
 use fvn_theory::Bounds;
 use std::alloc::Global;
-
-// How deep forms are taken apart, so that the stack suffices.
-const DEPTH: u64 = 1000;
 
 // A form to which steps lead, and how many steps are left.
 #[derive(Drop)]

@@ -1,8 +1,9 @@
 //! What rewrites: a signature, the rules of admissible equations, and limits.
-ghost use Rattle.std.specs.Prelude.{◌≡◌, None, IfOk, IfSome};
+ghost use Rattle.std.specs.Prelude.{◌≡◌, false, None, IsTrue, IfOk, IfSome};
 ghost use Rattle.fvn_terms.specs.Plain.{term};
 ghost use Rattle.fvn_terms.specs.Signature.{IsTerm};
 ghost use Rattle.fvn_terms.specs.Equality.{BEqual};
+ghost use Rattle.fvn_terms.specs.Rewriting.{IsReducible};
 ghost use Rattle.fvn_forms.specs.Flat.{plain};
 ghost use Rattle.fvn_forms.specs.Canon.{canon};
 ghost use Rattle.fvn_forms.specs.Good.{IsGood};
@@ -13,6 +14,7 @@ ghost use Rattle.fvn_rewrite.specs.Usable.{AreUsable, equations_by};
 
 use crate::normalising::normal;
 use crate::stepping::step;
+use crate::testing::is_reducible;
 use fvn_flat::{Flat, Normal, flatten};
 use fvn_rewrite_rules::Rules;
 use fvn_signature::Signature;
@@ -107,6 +109,18 @@ impl<'r> Rewriter<'r> {
     {
         let found = step(self.alloc, self.sig, self.rules, t)?;
         Ok(found)
+    }
+
+    /// Whether the term is reducible modulo the axioms; what a step leads to is not made.
+    pub fn is_reducible(&self, t: &Flat) -> Result<bool, NoMemory>
+        requires { Fits self.now.signature t.now }
+        ensures yes { IfOk result (λ is. IsTrue is
+            → IsReducible self.now.signature (equations_by self.now) (plain t.now)) }
+        ensures no { IfOk result (λ is. is ≡ false
+            → IsNormalForm self.now.signature (equations_by self.now) t.now) }
+    {
+        let is = is_reducible(self.alloc, self.sig, self.rules, t)?;
+        Ok(is)
     }
 
     /// A normal form within the limits, or what so many steps lead to, or a form that is too large.

@@ -18,7 +18,7 @@ use std::alloc::Global;
 use std::slice::from_ref;
 
 // What makes the left side of a rule the form. Where heads tell that there is no such thing, nothing is matched.
-fn rule_match(
+pub(crate) fn rule_match(
     alloc: Global,
     sig: &Signature,
     rule: &Rule,

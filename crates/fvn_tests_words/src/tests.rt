@@ -42,6 +42,11 @@ variants t --levels 0000000005 => none
 variants t --levels 1001 => none
 variants t --variants 10001 => none
 variants t --workers 17 => none
+variants t --levels 0 => none
+variants t --variants 0 => none
+variants t --steps 0 => none
+variants t --steps 1000001 => none
+variants t --workers 0 => none
 variants t --levels= => none
 variants t --levels=+5 => none
 variants t --levels 5a => none
@@ -52,6 +57,15 @@ variants t --levels 5 --levels 5 => none
 variants -- t --levels 5 => none
 variants -- --levels => variants --levels 100 1000 10000 1
 variants --levels 7 -- -x => variants -x 7 1000 10000 1
+vunify x --workers 16 --steps=1000000 --variants 10000 --levels=1000 => vunify x 1000 10000 1000000 16
+vunify x --levels 1001 => none
+vunify x --variants 10001 => none
+vunify x --steps 1000001 => none
+vunify x --workers 17 => none
+vunify x --levels 0 => none
+vunify x --variants 0 => none
+vunify x --steps 0 => none
+vunify x --workers 0 => none
 vunify x --workers 4 => vunify x 100 1000 10000 4
 vunify x y => none
 work 1 => none

@@ -1,6 +1,6 @@
--- The numbers of options, each written out.
+-- The numbers of options and of `work`, each written out.
 use Rattle.std.specs.Prelude.{◌≡◌}
-use Rattle.fvn_cmd_words.specs.declared.limits.TheConstants.{LEVELS, MOST_LEVELS, VARIANTS, MOST_VARIANTS, STEPS, MOST_STEPS, USUAL_WORKERS, MOST_WORKERS}
+use Rattle.fvn_cmd_words.specs.declared.limits.TheConstants.{LEVELS, MOST_LEVELS, VARIANTS, MOST_VARIANTS, STEPS, MOST_STEPS, USUAL_WORKERS, MOST_WORKERS, LEAST_WORK, MOST_WORK}
 
 -- each number is this one
 pub record AreStepLimits : Type 0 where
@@ -12,3 +12,5 @@ pub record AreStepLimits : Type 0 where
   pub most_steps : MOST_STEPS ≡ 1000000
   pub workers : USUAL_WORKERS ≡ 1
   pub most_workers : MOST_WORKERS ≡ 16
+  pub least_work : LEAST_WORK ≡ 2
+  pub most_work : MOST_WORK ≡ 6

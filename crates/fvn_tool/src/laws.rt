@@ -67,8 +67,8 @@ pub fn outcomes_are_determined()
     questions_are_determined();
 }
 
-/// The number of steps where the words tell none, and the most that they may ask for, are those that are written in
-/// `AreStepLimits`.
+/// The numbers of options where the words tell none, the most that they may ask for, and the least and the greatest number
+/// of `work` are those that are written in `AreStepLimits`.
 pub fn step_limits_are()
     ensures { AreStepLimits }
 {}

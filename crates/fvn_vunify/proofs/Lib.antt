@@ -12,6 +12,7 @@ mod Posing
 mod Joined
 mod Tested
 mod Attempted
+mod Apart
 mod Passing
 mod Staying
 mod Asking

@@ -4,6 +4,7 @@
 mod attempts;
 mod ends;
 mod laws;
+mod meeting;
 mod names;
 mod pairs;
 mod sides;

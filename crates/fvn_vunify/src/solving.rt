@@ -5,17 +5,18 @@ ghost use Rattle.fvn_vunify.specs.inner.Attempts.{IsSolvable, IsAttempt};
 
 use crate::attempts::{Attempt, tested};
 use crate::ends::{end_of_pairs, first_end};
+use crate::meeting::some_never_meet;
 use crate::names::fresh_names;
 use crate::pairs::pairs_under;
 use fvn_cover::Variant;
-use fvn_exploring::Expander;
+use fvn_exploring::{ExpandEnd, Expander};
 use fvn_flat::AxiomSolver;
 use fvn_rewrite_laws::{agreement_is_lawful, sequences_are_lawful};
 use fvn_signature::Signature;
 use fvn_terms::{NoMemory, Var};
 use std::alloc::Global;
 
-// What is found for the pairs of a variant, its variables renamed.
+// What is found for the pairs of a variant, its variables renamed; nothing, unasked, where one pair never meets.
 pub(crate) fn solve_variant<E: Expander, A: AxiomSolver>(
     alloc: Global,
     sig: &Signature,
@@ -35,6 +36,13 @@ pub(crate) fn solve_variant<E: Expander, A: AxiomSolver>(
     sequences_are_lawful();
     agreement_is_lawful();
     sig.recall_good();
+    let apart = some_never_meet(sig, v.terms.as_slice());
+    if apart {
+        return Ok(Attempt {
+            found: Vec::new(alloc),
+            end: ExpandEnd::Whole,
+        });
+    }
     let (names, next) = fresh_names(alloc, v)?;
     let given = pairs_under(alloc, sig, &names, v.terms.as_slice())?;
     let solved = solver.solve(alloc, &given, next)?;

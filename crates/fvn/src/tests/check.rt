@@ -5,7 +5,6 @@ use fvn_terms::NoMemory;
 use fvn_tool::Status;
 use std::alloc::Global;
 use std::process::Abort;
-use std::string::String;
 use std::thread::Threads;
 
 /// Whole texts, and what is printed of them.
@@ -137,128 +136,6 @@ fn each_refusal_has_its_line(rt: HostRuntime) -> Result<(), NoMemory> {
         body_told(&rt, rt.alloc(), row)?;
     }
     Ok(())
-}
-
-// The statement, so many times.
-fn push_repeated(text: &mut String, count: u32, statement: &str) -> Result<(), NoMemory> {
-    for _ in 0..count {
-        text.push_str(statement)?;
-    }
-    Ok(())
-}
-
-// A module with a sort, a constant and an operator of one argument, up to its next statement.
-const SMALL: &str = "fmod M is sort A . op a : -> A . op s : A -> A . ";
-
-// With so many equations: 256 are few enough, and the 257th stands in statement 3 + 257.
-fn equations_told<R: Abort + Threads + Sync>(
-    rt: &R,
-    alloc: Global,
-    count: u32,
-    want: &str,
-) -> Result<(), NoMemory> {
-    let mut text = String::from_str(alloc, SMALL)?;
-    push_repeated(&mut text, count, "eq s(a) = a [variant] . ")?;
-    text.push_str("endfm")?;
-    told(rt, alloc, text.as_str(), want)
-}
-
-// With so many operators on the left side of an equation: with its constant it has one symbol more.
-fn deep_told<R: Abort + Threads + Sync>(
-    rt: &R,
-    alloc: Global,
-    count: u32,
-    want: &str,
-) -> Result<(), NoMemory> {
-    let mut text = String::from_str(alloc, SMALL)?;
-    text.push_str("eq ")?;
-    push_repeated(&mut text, count, "s(")?;
-    text.push_str("a")?;
-    push_repeated(&mut text, count, ")")?;
-    text.push_str(" = a [variant] . endfm")?;
-    told(rt, alloc, text.as_str(), want)
-}
-
-// With so many sorts.
-fn sorts_told<R: Abort + Threads + Sync>(
-    rt: &R,
-    alloc: Global,
-    count: u32,
-    want: &str,
-) -> Result<(), NoMemory> {
-    let mut sorts = String::from_str(alloc, "fmod M is sorts")?;
-    for n in 0..count {
-        sorts = format!(in alloc; "{sorts} S{n}")?;
-    }
-    sorts.push_str(" . endfm")?;
-    told(rt, alloc, sorts.as_str(), want)
-}
-
-#[test]
-fn limits_of_a_module_have_their_lines(rt: HostRuntime) -> Result<(), NoMemory> {
-    equations_told(
-        &rt,
-        rt.alloc(),
-        256,
-        "module M sorts 1 kinds 1 operators 2 equations 256 | sorts kept",
-    )?;
-    equations_told(&rt, rt.alloc(), 257, "module 13 statement 260")?;
-    deep_told(
-        &rt,
-        rt.alloc(),
-        399,
-        "module M sorts 1 kinds 1 operators 2 equations 1 | sorts kept",
-    )?;
-    deep_told(&rt, rt.alloc(), 400, "module 13 equation 1")?;
-    sorts_told(&rt, rt.alloc(), 65, "module 9.9")
-}
-
-// So many spaces.
-fn spaces_told<R: Abort + Threads + Sync>(
-    rt: &R,
-    alloc: Global,
-    count: u32,
-    want: &str,
-) -> Result<(), NoMemory> {
-    let mut spaces = String::from_str(alloc, "")?;
-    push_repeated(&mut spaces, count, " ")?;
-    told(rt, alloc, spaces.as_str(), want)
-}
-
-#[test]
-fn texts_of_1048577_bytes_are_too_long(rt: HostRuntime) -> Result<(), NoMemory> {
-    spaces_told(&rt, rt.alloc(), 1_048_576, "module 2")?;
-    spaces_told(&rt, rt.alloc(), 1_048_577, "module 14")
-}
-
-// A module with an equation whose left side has so many variables of sort B, among other operators.
-fn instances_told<R: Abort + Threads + Sync>(
-    rt: &R,
-    alloc: Global,
-    others: &str,
-    count: u32,
-    want: &str,
-) -> Result<(), NoMemory> {
-    let mut side = String::from_str(alloc, "a")?;
-    for n in 0..count {
-        side = format!(in alloc; "p(X{n}:B,{side})")?;
-    }
-    let text = format!(in alloc;
-        "fmod M is sorts A B . op a : -> B . op p : B B -> B . {others} eq {side} = a [variant] . endfm"
-    )?;
-    told(rt, alloc, text.as_str(), want)
-}
-
-// Twelve variables that may be an identity have 4,096 instances, and one more has 8,192. Of 25 variables over two
-// sorts there are 33,554,432.
-#[test]
-fn left_sides_with_many_instances_are_refused(rt: HostRuntime) -> Result<(), NoMemory> {
-    let identity = "op e : -> B . op h : B B -> B [assoc comm id: e] .";
-    let few = "module M sorts 2 kinds 2 operators 4 equations 1 | sorts kept";
-    let many = "module 13 equation 1";
-    instances_told(&rt, rt.alloc(), identity, 12, few)?;
-    instances_told(&rt, rt.alloc(), identity, 13, many)?;
-    instances_told(&rt, rt.alloc(), "subsort A < B .", 25, many)
 }
 
 #[test]

@@ -1,11 +1,10 @@
-//! Reads and writes that fail, modules that end too early, and deep left sides, whatever the command.
+//! Reads and writes that fail, and modules that end too early, whatever the command.
 use super::unify::text_of;
 use super::{Setting, answer, assert_answer, assert_front, plain};
 use fvn_terms::NoMemory;
 use fvn_tool::Status;
 use std::alloc::Global;
 use std::process::Abort;
-use std::string::String;
 use std::thread::Threads;
 
 /// Commands with their words, modules, and what is printed of these.
@@ -14,10 +13,16 @@ check <= fmod PLUS is sort N . op 0 : -> N . op s : N -> N . op + : N N -> N . v
 variants | dec(X,Y) <= fmod ENC is sort S . ops enc dec : S S -> S . vars X Y : S . eq dec(enc(X,Y),Y) = X [variant] . endfm ==> #1:S {X:S --> enc(#1:S,#2:S), Y:S --> #2:S} | dec(#1:S,#2:S) {X:S --> #1:S, Y:S --> #2:S} | complete 2
 vunify | dec(X,a) =? a <= fmod ENC is sort S . op a : -> S . ops enc dec : S S -> S . vars X Y : S . eq dec(enc(X,Y),Y) = X [variant] . endfm ==> {X:S --> enc(a,a)} | complete 1
 verify | X =? a | {X:S --> a} <= fmod FREE is sort S . ops a b : -> S . op p : S S -> S . vars X Y : S . endfm ==> yes
+unify | p(X,b) =? p(a,Y) <= fmod FREE is sort S . ops a b : -> S . op p : S S -> S . vars X Y : S . endfm ==> {X:S --> a, Y:S --> b} | complete 1
 terminates | s : 1 1 <= fmod S is sort S . op 0 : -> S . op s : S -> S . eq s(s(0)) = 0 [variant] . endfm ==> terminates";
 
+/// The same for commands of which writes alone fail: one whose text has 14 bytes, and one that reads nothing.
+const WRITTEN: &str = "\
+unify | a =? a <= fmod AC is sort S . ops a b : -> S . op g : S -> S . op c : S S -> S [comm] . op _+_ : S S -> S [assoc comm] . vars X Y Z U V : S . endfm ==> {} | complete 1
+work | 2 <=  ==> complete 7";
+
 /// A row's words.
-fn words_of<'a>(alloc: Global, row: &'a str) -> Result<Vec<&'a str>, NoMemory> {
+pub fn words_of<'a>(alloc: Global, row: &'a str) -> Result<Vec<&'a str>, NoMemory> {
     let mut words = Vec::new(alloc);
     for word in row.split(" | ") {
         words.push(word)?;
@@ -75,7 +80,7 @@ fn reads_fail<R: Abort + Threads + Sync>(
     Ok(())
 }
 
-/// Of writes of so many bytes the one with this number fails.
+/// Of writes of 3 bytes the one with this number fails.
 fn write_fails<R: Abort + Threads + Sync>(
     rt: &R,
     alloc: Global,
@@ -85,12 +90,26 @@ fn write_fails<R: Abort + Threads + Sync>(
     k: usize,
 ) -> Result<(), NoMemory> {
     let mut setting = plain(words, module);
-    setting.write_piece = 7;
+    setting.write_piece = 3;
     setting.failing_write = (k as u64).saturating_add(1);
-    assert_front(rt, alloc, &setting, text, k.saturating_mul(7))
+    assert_front(rt, alloc, &setting, text, k.saturating_mul(3))
 }
 
-/// Each write fails in turn, and then none; and the sink has room for all but one byte.
+/// The sink has room for so many bytes.
+fn room_fails<R: Abort + Threads + Sync>(
+    rt: &R,
+    alloc: Global,
+    words: &[&str],
+    module: &[u8],
+    text: &[u8],
+    room: usize,
+) -> Result<(), NoMemory> {
+    let mut setting = plain(words, module);
+    setting.room = room;
+    assert_front(rt, alloc, &setting, text, room)
+}
+
+/// Each write fails in turn, and then none; and the sink has room for all but one byte, and for all.
 fn writes_fail<R: Abort + Threads + Sync>(
     rt: &R,
     alloc: Global,
@@ -98,12 +117,11 @@ fn writes_fail<R: Abort + Threads + Sync>(
     module: &[u8],
     text: &[u8],
 ) -> Result<(), NoMemory> {
-    for k in 0..=text.len() / 7 {
+    for k in 0..=(text.len() / 3).saturating_add(1) {
         write_fails(rt, alloc, words, module, text, k)?;
     }
-    let mut setting = plain(words, module);
-    setting.room = text.len().saturating_sub(1);
-    assert_front(rt, alloc, &setting, text, setting.room)
+    room_fails(rt, alloc, words, module, text, text.len().saturating_sub(1))?;
+    room_fails(rt, alloc, words, module, text, text.len())
 }
 
 /// A row of a command, its module and its text.
@@ -126,6 +144,33 @@ fn row_fails<R: Abort + Threads + Sync>(rt: &R, alloc: Global, row: &str) -> Res
         module.as_bytes(),
         text.as_bytes(),
     )
+}
+
+/// A row of a command of which writes alone fail.
+fn row_written<R: Abort + Threads + Sync>(
+    rt: &R,
+    alloc: Global,
+    row: &str,
+) -> Result<(), NoMemory> {
+    let (asked, said) = row.split_once(" ==> ").unwrap_or((row, "no row"));
+    let (command, module) = asked.split_once(" <= ").unwrap_or((asked, "no module"));
+    let words = words_of(alloc, command)?;
+    let text = text_of(alloc, said)?;
+    writes_fail(
+        rt,
+        alloc,
+        words.as_slice(),
+        module.as_bytes(),
+        text.as_bytes(),
+    )
+}
+
+#[test]
+fn each_write_of_three_bytes_fails_in_turn(rt: HostRuntime) -> Result<(), NoMemory> {
+    for row in WRITTEN.lines() {
+        row_written(&rt, rt.alloc(), row)?;
+    }
+    Ok(())
 }
 
 #[test]
@@ -153,99 +198,31 @@ fn front_refused<R: Abort + Threads + Sync>(
     )
 }
 
-/// A row's module, cut at each length that does not hold its last byte.
+/// The module, cut at each length that does not hold its last byte.
+fn fronts_refused<R: Abort + Threads + Sync>(
+    rt: &R,
+    alloc: Global,
+    words: &[&str],
+    module: &[u8],
+) -> Result<(), NoMemory> {
+    for n in 0..module.len() {
+        front_refused(rt, alloc, words, &module[..n])?;
+    }
+    Ok(())
+}
+
+/// A row's module, cut so.
 fn row_cut<R: Abort + Threads + Sync>(rt: &R, alloc: Global, row: &str) -> Result<(), NoMemory> {
     let (asked, _) = row.split_once(" ==> ").unwrap_or((row, "no row"));
     let (command, module) = asked.split_once(" <= ").unwrap_or((asked, "no module"));
     let words = words_of(alloc, command)?;
-    let bytes = module.as_bytes();
-    for n in 0..bytes.len() {
-        front_refused(rt, alloc, words.as_slice(), &bytes[..n])?;
-    }
-    Ok(())
+    fronts_refused(rt, alloc, words.as_slice(), module.as_bytes())
 }
 
 #[test]
 fn modules_that_end_too_early_are_refused(rt: HostRuntime) -> Result<(), NoMemory> {
     for row in ROWS.lines() {
         row_cut(&rt, rt.alloc(), row)?;
-    }
-    Ok(())
-}
-
-fn push_often(text: &mut String, part: &str, count: u32) -> Result<(), NoMemory> {
-    for _ in 0..count {
-        text.push_str(part)?;
-    }
-    Ok(())
-}
-
-/// A module whose left side has the text so many times around a constant.
-fn deep(alloc: Global, before: &str, count: u32) -> Result<String, NoMemory> {
-    let mut text = String::from_str(
-        alloc,
-        "fmod M is sort S . op a : -> S . op g : S -> S . eq ",
-    )?;
-    push_often(&mut text, before, count)?;
-    text.push_str("g(a)")?;
-    push_often(&mut text, ")", count)?;
-    text.push_str(" = a [variant] . endfm")?;
-    Ok(text)
-}
-
-/// What is said of a module of such a depth.
-fn deep_told<R: Abort + Threads + Sync>(
-    rt: &R,
-    alloc: Global,
-    words: &[&str],
-    before: &str,
-    want: Status,
-    text: &[u8],
-) -> Result<(), NoMemory> {
-    let module = deep(alloc, before, 20_000)?;
-    assert_answer(rt, alloc, words, module.as_bytes(), want, text)
-}
-
-/// Commands with words that are answered over any of these modules.
-const COMMANDS: &str = "\
-check ==> module M sorts 1 kinds 1 operators 2 equations 1 | sorts kept
-unify | X:S =? a ==> {X:S --> a} | complete 1
-variants | g(a) ==> a {} | complete 1
-vunify | g(a) =? a ==> {} | complete 1
-verify | g(a) =? a | {} ==> yes
-terminates | g : 1 1 ==> terminates";
-
-/// A left side in 20,000 pairs of parentheses is read, and one of 20,002 symbols is refused.
-fn command_goes_deep<R: Abort + Threads + Sync>(
-    rt: &R,
-    alloc: Global,
-    row: &str,
-) -> Result<(), NoMemory> {
-    let (command, said) = row.split_once(" ==> ").unwrap_or((row, "no row"));
-    let words = words_of(alloc, command)?;
-    let text = text_of(alloc, said)?;
-    deep_told(
-        rt,
-        alloc,
-        words.as_slice(),
-        "(",
-        Status::Solved,
-        text.as_bytes(),
-    )?;
-    deep_told(
-        rt,
-        alloc,
-        words.as_slice(),
-        "g(",
-        Status::ModuleRefused,
-        b"module 13 equation 1\n",
-    )
-}
-
-#[test]
-fn deep_left_sides_are_read_or_refused(rt: HostRuntime) -> Result<(), NoMemory> {
-    for row in COMMANDS.lines() {
-        command_goes_deep(&rt, rt.alloc(), row)?;
     }
     Ok(())
 }

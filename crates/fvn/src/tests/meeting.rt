@@ -19,6 +19,10 @@ const WORDS: [&str; 6] = ["variants", "+(X,Y)", "--levels", "1", "--workers", "2
 const WRITTEN: &[u8] =
     b"#1:Nat {X:Nat --> 0, Y:Nat --> #1:Nat}\n+(#1:Nat,#2:Nat) {X:Nat --> #1:Nat, Y:Nat --> #2:Nat}\ns(+(#1:Nat,#2:Nat)) {X:Nat --> s(#1:Nat), Y:Nat --> #2:Nat}\nbound levels 1\n";
 
+const SOLVED_WORDS: [&str; 6] = ["vunify", "+(X,Y) =? 0", "--levels", "1", "--workers", "2"];
+
+const SOLVED: &[u8] = b"{X:Nat --> 0, Y:Nat --> 0}\nbound levels 1\n";
+
 /// Counts the pieces that are inside; each looks for a second one before it leaves.
 #[derive(Drop)]
 struct Meeting {
@@ -69,6 +73,7 @@ fn assert_met<R: Abort + Threads + Sync>(
     rt: &R,
     alloc: Global,
     setting: &Setting,
+    written: &[u8],
 ) -> Result<(), NoMemory> {
     let gate = Meeting::new();
     let words = words_of(alloc, setting)?;
@@ -76,12 +81,17 @@ fn assert_met<R: Abort + Threads + Sync>(
     let mut out = sink_of(alloc, setting)?;
     let status = run(rt, &gate, alloc, words.as_slice(), &mut module, &mut out);
     assert_eq!(rt; status, Status::Ended);
-    assert!(rt; out.written() == WRITTEN);
+    assert!(rt; out.written() == written);
     assert!(rt; gate.seen.load(Ordering::SeqCst));
     Ok(())
 }
 
 #[test]
 fn two_workers_are_inside_at_once(rt: HostRuntime) -> Result<(), NoMemory> {
-    assert_met(&rt, rt.alloc(), &plain(&WORDS, PLUS))
+    assert_met(&rt, rt.alloc(), &plain(&WORDS, PLUS), WRITTEN)
+}
+
+#[test]
+fn two_workers_solve_at_once(rt: HostRuntime) -> Result<(), NoMemory> {
+    assert_met(&rt, rt.alloc(), &plain(&SOLVED_WORDS, PLUS), SOLVED)
 }

@@ -58,7 +58,7 @@ X =? p(a) ==> problem 4
 X =? a b ==> problem 2";
 
 /// A module whose lines end with carriage returns, and whose names have backquotes.
-pub const QUOTED: &str =
+const QUOTED: &str =
     "fmod QUOTED is\r\n  sort S .\r\n  ops a` `( : -> S .\r\n  op s : S -> S .\r\n  \
     op f` : S S -> S .\r\n  vars X Y : S .\r\nendfm\r\n";
 

@@ -8,7 +8,8 @@ use Rattle.fvn_forms.specs.Flat.{FlatTerm}
 use Rattle.fvn_combine_nodes.specs.Table.{NodeTable}
 use Rattle.fvn_combine_nodes.specs.declared.state.State.{State}
 use Rattle.fvn_combine_inferring.specs.Sorted.{GoWithSorts}
-use Rattle.fvn_combine_inferring.specs.Rows.{many}
+use Rattle.fvn_combine_inferring.specs.Inferred.{HaveTwoValues}
+use Rattle.fvn_combine_inferring.specs.Rows.{many, HasSummand}
 
 module _ (d : Declarations) (f : OpId) where
   -- g is neither f nor its identity
@@ -23,6 +24,16 @@ module _ (d : Declarations) (t : NodeTable) (s : State) (sorted : Bool) where
   -- whatever values go with the state, that of the class of node k has two summands
   abbrev pub HasTwoSummands : OpId → ℕ → Type 0
   HasTwoSummands f k = (values : ℕ → FlatTerm) → GoWithSorts d t s sorted values → 2 ≤ many d s f values k
+
+  -- the class of node k has a summand, and another value than that of node i
+  pub record IsPart (f : OpId) (k i : ℕ) : Type 0 where
+    pub some : HasSummand d t s sorted f k
+    pub other : HaveTwoValues d t s sorted k i
+
+  -- the classes of both nodes have a summand
+  pub record HaveSummands (f : OpId) (a b : ℕ) : Type 0 where
+    pub first : HasSummand d t s sorted f a
+    pub second : HasSummand d t s sorted f b
 
 -- different operators are noted of classes k and l
 abbrev pub HaveTwoHeads : List (Option OpId) → ℕ → ℕ → Type 0

@@ -1,11 +1,11 @@
 -- Level runs as they grow, and what an exploration ends with.
-use Rattle.std.specs.Prelude.{◌≡◌, ◌≢◌, ◌≤◌, ◌<◌, ◌⊎◌, ◌+◌, ℕ, Bool, true, false, List, [], ◌∷◌, ◌++◌, length, map, All, Contains}
+use Rattle.std.specs.Prelude.{◌≡◌, ◌≢◌, ◌≤◌, ◌<◌, ◌⊎◌, ◌+◌, ℕ, Bool, true, false, List, [], ◌∷◌, ◌++◌, length, map, All, AllPairs, Contains}
 use Rattle.fvn_terms.specs.declared.declarations.Declarations.{Declarations}
 use Rattle.fvn_terms.specs.Substitution.{Substitution}
 use Rattle.fvn_terms.specs.Unifiers.{Problem}
 use Rattle.fvn_forms.specs.Flat.{FlatTerm}
 use Rattle.fvn_cover.specs.declared.variant.Variant.{Variant}
-use Rattle.fvn_cover.specs.Covering.{AreAlike, IsFlatVariant}
+use Rattle.fvn_cover.specs.Covering.{CoversVariant, AreAlike, IsFlatVariant}
 use Rattle.fvn_cover.specs.Pruning.{IsPruned}
 use Rattle.fvn_exploring.specs.declared.limits.Limits.{Limits}
 use Rattle.fvn_exploring.specs.declared.ends.Deep.{Deep}
@@ -56,10 +56,11 @@ pub record IsExploredTo (g : Setting) (drawn : Problem → Substitution → Type
   pub some : 1 ≤ length r.kept
   pub ready : AreReady g r.kept
 
--- all are flat in the signature, and alike
+-- all are flat in the signature, and alike, and none covers a later one
 pub record AreKept (d : Declarations) (kept : List Variant) : Type 0 where
   pub flat : All (IsFlatVariant d) kept
   pub alike : All (λ a. All (AreAlike a) kept) kept
+  pub folded : AllPairs (λ a b. CoversVariant d a b → ⊥) kept
 
 -- after this next level nothing comes, or all expansions were whole
 abbrev pub IsOverOrWhole : Bool → List Variant → ExpandEnd → Type 0

@@ -13,7 +13,7 @@ use Rattle.fvn_forms.specs.Ranks.{result}
 use Rattle.fvn_forms.specs.LeastSort.{sum_sort, sort_in}
 use Rattle.fvn_flat.specs.Fits.{AllFit, AllOfKind}
 use Rattle.fvn_flat.specs.Bindings.{Bindings, value}
-use Rattle.fvn_refine.specs.inner.Rows.{Row, way_of, IsRow, HasAbove, IsAntichain}
+use Rattle.fvn_refine.specs.inner.Rows.{Row, way_of, IsRow, IsRowBelow, HasAbove, IsAntichain}
 
 module _ (d : Declarations) where
   -- the argument lists of the ranks that give the sort or one below it, but for those below another
@@ -48,6 +48,12 @@ module _ (d : Declarations) where
     -- so have the forms the sorts in their places
     abbrev pub AreUnder : List FlatTerm → List SortId → Row → Type 0
     AreUnder ts ss m = AllZip (λ t s. IsUnder t s m) ts ss
+
+    -- the rows are at or below the way, and above each row below it that has the property
+    pub record Narrows (way : Row) (P : Row → Type 0) (rows : List Row) : Type 0 where
+      pub found : (r : Row) → Contains rows r → IsRow d xs r × IsRowBelow d r way
+      pub covers : (m : Row) → IsRow d xs m → IsRowBelow d m way → P m → HasAbove d rows m
+      pub apart : IsAntichain d rows
 
     -- so has the operator over the forms
     abbrev pub IsResultUnder : OpId → List FlatTerm → SortId → Row → Type 0

@@ -54,6 +54,18 @@ fn is_small(problem: &Pairs) -> bool
     total <= 900
 }
 
+/// Whether the pairs are a problem without fresh variables.
+pub fn is_problem(alloc: Global, sig: &Signature, problem: &Pairs) -> Result<bool, NoMemory>
+    requires { All (λ p. Fits sig.now p.0 × Fits sig.now p.1) problem.now.pairs }
+    ensures { IfOk result (λ r. IsTrue r → IsGiven sig.now problem.now 0) }
+{
+    if !are_sides(alloc, sig, problem)? {
+        return Ok(false);
+    }
+    let named = has_named(alloc, sig, problem)?;
+    Ok(named)
+}
+
 /// Whether the pairs may be given.
 pub fn is_given(alloc: Global, sig: &Signature, problem: &Pairs) -> Result<bool, NoMemory>
     requires { All (λ p. Fits sig.now p.0 × Fits sig.now p.1) problem.now.pairs }
@@ -63,9 +75,6 @@ pub fn is_given(alloc: Global, sig: &Signature, problem: &Pairs) -> Result<bool,
     if !is_small(problem) {
         return Ok(false);
     }
-    if !are_sides(alloc, sig, problem)? {
-        return Ok(false);
-    }
-    let named = has_named(alloc, sig, problem)?;
-    Ok(named)
+    let given = is_problem(alloc, sig, problem)?;
+    Ok(given)
 }

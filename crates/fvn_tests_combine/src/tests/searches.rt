@@ -21,8 +21,8 @@ const OPERATORS: &str =
 // A term is written with each operator after its arguments. Sums with an identity below sums without one; bags of
 // free terms; sums that can't be equal. Where nothing is inferred, the numbers are many times these.
 const SEARCHED: &str = "A0 A1 l f k = o f l f k => 1
-A0 A1 l f k A2 l f k = o f l f k f l f k => 2
-A0 A1 l f k A2 l f k A3 l f k = o f l f k f l f k f l f k => 4
+A0 A1 l f k A2 l f k = o f l f k f l f k => 3
+A0 A1 l f k A2 l f k A3 l f k = o f l f k f l f k f l f k => 6
 A0 A1 i A2 A3 i k = f A4 h i f A5 h i k => 3
 A0 A1 i A2 A3 i A4 A5 i k k = f A6 h i f A7 h i f A8 h i k k => 11
 A0 A1 i A2 A3 i k = f A4 h i g A5 h i k => 3

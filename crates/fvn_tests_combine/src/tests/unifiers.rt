@@ -84,19 +84,25 @@ A0 A1 l = B2 => 4 | A0 B1; A1 g; B2 B1 & A0 g; A1 B1; B2 B1
 A0 A1 l = o => 2 | A0 o; A1 g & A0 g; A1 o
 B0 A1 k = B2 A3 k => 7 | B0 B1; A1 B2; B2 B2; A3 B1";
 
-// A problem, and how a solver ends with it that stops at four unifiers and at terms of more than 20 symbols.
-const SOLVED: &str = "A0 A1 k = A2 A3 k => unifiers 4
-A0 A0 k = A1 A2 k => unifiers 4
-A0 A1 j = f g j => complete 2
-A0 f k = A1 g k => complete 2
-A0 A1 l = A2 A3 l => complete 1
-A0 = A0 f k => complete 0
-f h = g h => complete 0
-A0 A0 i = A1; A1 A1 i = A2; A2 A2 i = A3 => complete 1
-A0 A0 i = A1; A1 A1 i = A2; A2 A2 i = A3; A3 A3 i = A4 => size 0
-f f i f f i i f f i f f i i i = f f i f f i i f f i f f i i i => problem 0
-A0 A1 k A2 k A3 k A4 k = A5 A6 k A7 k A8 k A9 k => basis 0
-A0 = A1; A2 = A3; A4 = A5; A6 = A7; A8 = A9; Ab = Ac; Ad = Ae; Af = Ag; Ah = Ai; Aj = Ak => complete 1";
+// Numbers of unifiers and of symbols at which a solver stops, a problem, and how the solver ends with it. A star stands
+// for the operator h 499 times.
+const SOLVED: &str = "4 20 A0 A1 k = A2 A3 k => unifiers 4
+4 20 A0 A0 k = A1 A2 k => unifiers 4
+4 20 A0 A1 j = f g j => complete 2
+4 20 A0 f k = A1 g k => complete 2
+4 20 A0 A1 l = A2 A3 l => complete 1
+4 20 A0 = A0 f k => complete 0
+4 20 f h = g h => complete 0
+4 20 A0 A0 i = A1; A1 A1 i = A2; A2 A2 i = A3 => complete 1
+4 20 A0 A0 i = A1; A1 A1 i = A2; A2 A2 i = A3; A3 A3 i = A4 => size 0
+4 20 f f i f f i i f f i f f i i i = f f i f f i i f f i f f i i i => problem 0
+4 20 A0 A1 k A2 k A3 k A4 k = A5 A6 k A7 k A8 k A9 k => basis 0
+4 20 A0 = A1; A2 = A3; A4 = A5; A6 = A7; A8 = A9; Ab = Ac; Ad = Ae; Af = Ag; Ah = Ai; Aj = Ak => complete 1
+8 1000 A0 A1 k = A2 A3 k => complete 7
+7 1000 A0 A1 k = A2 A3 k => unifiers 7
+8 1000 f* = f* => complete 1
+8 1000 f* = f* h => problem 0
+8 1000 f* = f h h => complete 0";
 
 /// What is found of the unifiers of a problem that may be given.
 fn push_unified(

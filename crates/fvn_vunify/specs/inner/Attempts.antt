@@ -1,21 +1,24 @@
 -- What is found for the pairs of one variant, and of several.
 use Rattle.std.specs.Prelude.{◌≡◌, ◌≢◌, ◌⊎◌, ◌↔◌, List, [], ◌∷◌, All, Any, Contains}
 use Rattle.fvn_terms.specs.declared.plain.Var.{Var}
+use Rattle.fvn_terms.specs.declared.declarations.Declarations.{Declarations}
 use Rattle.fvn_terms.specs.Term.{Term, var}
 use Rattle.fvn_terms.specs.Substitution.{Substitution, apply, followed_by, Occurs}
 use Rattle.fvn_terms.specs.Equality.{BEqual}
 use Rattle.fvn_terms.specs.Unifiers.{Problem, IsUnifier, IsInstance}
 use Rattle.fvn_terms.specs.Rewriting.{IsIrreducible}
+use Rattle.fvn_forms.specs.Flat.{FlatTerm}
 use Rattle.fvn_flat.specs.Bindings.{Bindings, composed, IsRestriction, BindingsFit}
 use Rattle.fvn_flat.specs.Problems.{IsProblem}
 use Rattle.fvn_flat.specs.Solving.{substitution}
+use Rattle.fvn_places.specs.Clashes.{NeverMeet}
 use Rattle.fvn_cover.specs.declared.variant.Variant.{Variant}
 use Rattle.fvn_cover.specs.Covering.{IsFlatVariant}
 use Rattle.fvn_exploring.specs.declared.ends.ExpandEnd.{ExpandEnd}
 use Rattle.fvn_exploring.specs.declared.ends.ExpandEnd.TheVariants.{Whole}
 use Rattle.fvn_exploring.specs.Setting.{Setting}
 use Rattle.fvn_exploring.specs.Children.{HoldsVariables}
-use Rattle.fvn_vunify.specs.Sides.{problem_over}
+use Rattle.fvn_vunify.specs.Sides.{two_by_two, problem_over}
 use Rattle.fvn_vunify.specs.Causes.{IsPairsCause, MeetsBound}
 use Rattle.fvn_vunify.specs.declared.testing.Test.TheVariants.{Stopped}
 use Rattle.fvn_vunify.specs.inner.Tests.{ArePassed, AllStay, IsTestAmong}
@@ -23,6 +26,10 @@ use Rattle.fvn_vunify.specs.inner.Tests.{ArePassed, AllStay, IsTestAmong}
 -- a substitution as a variant without terms
 abbrev pub candidate_of : List Var → Bindings → Variant
 candidate_of vars s = record { terms = []; subst = s; vars = vars }
+
+-- two of the forms that are taken together never meet
+abbrev pub SomeNeverMeet : Declarations → List FlatTerm → Type 0
+SomeNeverMeet d ts = Any (λ p. NeverMeet d p.0 p.1) (two_by_two ts)
 
 -- the variables of the first variant
 abbrev pub first_variables : List Variant → List Var

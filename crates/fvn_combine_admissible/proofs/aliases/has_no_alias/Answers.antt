@@ -1,6 +1,8 @@
--- One more column.
-use Rattle.std.proofs.Common.{ℕ, List, ◌<◌, inl, inr, length, refl, sym, ap, ◌∙◌, subst, arith, All}
-use Rattle.std.proofs.lemmas.Bool.{false≢true, cases_lt}
+-- Without constants there is no alias, and one more column.
+use Rattle.std.proofs.Common.{◌≡◌, ℕ, List, ◌<◌, inl, inr, length, refl, sym, ap, ◌∙◌, subst, arith, All}
+use Rattle.std.specs.Prelude.{nat_eq}
+use Rattle.std.proofs.lemmas.Bool.{false≢true, cases_lt, eqb-true}
+use Rattle.fvn_acunify.specs.ValidChoice.{chosen}
 use Rattle.fvn_combine_nodes.specs.declared.table.Node.{Node}
 use Rattle.fvn_combine_nodes.specs.States.{class_of}
 use Rattle.fvn_lindio.specs.declared.system.Solution.{Solution}
@@ -22,6 +24,14 @@ constants_of-requires c =
       whole = subst (λ (ns : List Node). IsWhole (length ns) c.args.reading.now) (sym c.nodes-n.ensures) (reading_whole d t made c.args.state.now c.requires.closed c.args.reading.now c.requires.reading);
       sums = subst (λ (ns : List Node). IsWholeSums (length ns) c.args.sums.now) (sym c.nodes-n.ensures) (sums_whole d t made c.args.state.now c.requires.closed c.args.reading.now c.requires.reading c.args.sums.now c.requires.listed);
     }
+
+pub returns-then-is_empty : goal.returns-then-is_empty
+returns-then-is_empty c =
+    let constants = c.in_ok-constants.constants.items in
+    let none : length constants ≡ 0 = eqb-true (length constants) 0 (ap (λ n. nat_eq n 0) (sym c.in_ok-constants.constants.ok.0) ∙ sym c.is_empty.ensures ∙ c.if-is_empty.true) in (
+      λ e. no_alias_of_columns c.args.sig.now c.args.table.now c.recall_well_made.ensures c.args.state.now c.requires.closed c.args.reading.now c.requires.reading c.args.tags.now c.args.sums.now c.requires.listed constants c.in_ok-constants.ensures (chosen c.args.number (vectors_of c.args.basis.now)) (λ j l may. let within = may.2.3.1.1 in absurd (omega (arith, within, none))),
+      λ all. refl,
+    )
 
 pub is_alias_at-requires-clause-whole : goal.is_alias_at-requires-clause-whole
 is_alias_at-requires-clause-whole c =

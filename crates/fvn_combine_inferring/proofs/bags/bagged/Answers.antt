@@ -15,9 +15,9 @@ matched-told-requires c =
       sums = c.requires.sums;
       heads = c.requires.heads;
       addition = c.requires.addition;
+      insides = c.requires.insides;
       within = c.requires.left i 0 c.loop-k-test.true;
       list = c.requires.right;
       one = c.is_summand.ensures c.if-not-is_summand.false;
-      few = c.have_few_summands.ensures c.if-not-have_few_summands.false;
       among = among_side c.args.sig.now c.args.table.now c.args.state.now c.args.known.now.sorted c.args.addition.now.operator xs c.args.second.now i (get_or xs i 0) c.loop-k-test.true refl c.requires.sides;
     }

@@ -4,7 +4,7 @@ use Rattle.fvn_combine_inferring.proofs.Told.{bag_out, bag_one}
 use Rattle.fvn_combine_inferring.proofs.bags.matched.Goals as goal
 
 pub returns-in-None : goal.returns-in-None
-returns-in-None c = bag_out c.args.sig.now c.args.table.now c.args.state.now c.args.known.now.sorted c.args.addition.now.operator c.args.k c.args.list.now c.requires.one c.requires.few c.requires.among c.in-None.ensures
+returns-in-None c = bag_out c.args.sig.now c.args.table.now c.args.state.now c.args.known.now.sorted c.args.addition.now.operator c.args.k c.args.list.now c.requires.one c.requires.among c.in-None.ensures
 
 pub is_open-requires : goal.is_open-requires
 is_open-requires c =
@@ -24,5 +24,5 @@ met-requires c = record {
   closed = c.requires.closed;
   left = c.requires.within;
   right = c.in-Some.ensures;
-  equal = bag_one c.args.sig.now c.args.table.now c.args.state.now c.args.known.now.sorted c.args.addition.now.operator c.args.k c.in-Some.l c.args.list.now c.requires.one c.requires.few c.requires.among (c.is_only.ensures c.if-is_only.true);
+  equal = bag_one c.args.sig.now c.args.table.now c.args.state.now c.args.known.now.sorted c.args.addition.now.operator c.args.k c.in-Some.l c.args.list.now c.requires.one (c.has_few_summands.ensures c.if-not-has_few_summands.false) c.requires.among (c.is_only.ensures c.if-is_only.true);
 }

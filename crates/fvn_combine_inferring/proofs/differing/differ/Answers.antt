@@ -26,9 +26,9 @@ have_two_heads-requires c =
     let q = c.class_of-2.ensures in
     record { left = omega (arith, n, a, p, e); right = omega (arith, n, b, q, e) }
 
-pub returns : goal.returns
-returns c t values go =
+pub returns-then-have_two_heads : goal.returns-then-have_two_heads
+returns-then-have_two_heads c t values go =
     let heads = c.args.known.now.heads.items in
-    let told = subst (λ (l : List (Option OpId)). HaveTwoHeads l c.class_of.result c.class_of-2.result) c.as_slice.ensures.value (c.have_two_heads.ensures t) in
+    let told = subst (λ (l : List (Option OpId)). HaveTwoHeads l c.class_of.result c.class_of-2.result) c.as_slice.ensures.value (c.have_two_heads.ensures c.if-have_two_heads.true) in
     heads_differ c.args.sig.now c.args.table.now c.args.state.now c.requires.closed c.args.known.now.sorted heads c.requires.heads values go c.args.i c.args.j c.requires.left c.requires.right
     (subst (λ k. HaveTwoHeads heads k (class_of c.args.state.now c.args.j)) c.class_of.ensures (subst (λ k. HaveTwoHeads heads c.class_of.result k) c.class_of-2.ensures told))

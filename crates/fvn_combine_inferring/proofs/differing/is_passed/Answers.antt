@@ -6,4 +6,4 @@ pub returns-then-x-l : goal.returns-then-x-l
 returns-then-x-l c t = inl c.if-x-l.true
 
 pub returns : goal.returns
-returns c t = inr (c.differ.ensures t)
+returns c t = inr (c.is_no_summand.ensures t)

@@ -3,6 +3,8 @@ use Rattle.std.proofs.Common.{sym, subst, inl, inr, Contains}
 use Rattle.std.proofs.lemmas.List.Elements.{Contains-get_or}
 use Rattle.fvn_combine_leaves.proofs.ReadOfState.{sum_operator}
 use Rattle.fvn_combine_inferring.specs.Inferred.{IsInferred}
+use Rattle.fvn_combine_inferring.specs.inner.Sizes.{AreSaid, AreInside}
+use Rattle.fvn_combine_inferring.proofs.Sizing.{circular_out}
 use Rattle.fvn_combine_inferring.proofs.inferring.infer.Goals as goal
 
 pub infer_of-requires-clause-associative : goal.infer_of-requires-clause-associative
@@ -18,3 +20,12 @@ loop-sums-preserved c =
       | inl e ↦ subst told (sym e) c.loop-sums.invariant
       | inr e ↦ subst told (sym e) c.in_ok-told.ensures
     ]
+
+pub infer_of-requires-clause-insides : goal.infer_of-requires-clause-insides
+infer_of-requires-clause-insides c =
+    subst (AreInside c.args.sig.now c.args.table.now c.args.state.now c.args.known.now.sorted) (sym c.as_slice-in-loop-sums.ensures.value) c.in_ok-pairs.ensures
+
+pub returns-then-is_circular : goal.returns-then-is_circular
+returns-then-is_circular c =
+    circular_out c.args.sig.now c.args.table.now c.args.state.now c.args.known.now.sorted c.in_ok-pairs.pairs.items c.in_ok-pairs.ensures
+    (λ w h. c.is_circular.ensures c.if-is_circular.true w (subst (AreSaid w) (sym c.as_slice.ensures.value) h))

@@ -12,6 +12,7 @@ rule-requires c =
       sums = c.requires.sums;
       heads = c.requires.heads;
       addition = c.requires.addition;
+      insides = c.requires.insides;
       left = subst P (sym c.as_slice-left.ensures.value) (rw c.in-Some.is at c.in_ok-row_at.ensures.left);
       right = subst P (sym c.as_slice-right.ensures.value) (rw c.in-Some.is at c.in_ok-row_at.ensures.right);
       sides = subst (λ l. sides l c.as_slice-right.result.now) (sym c.as_slice-left.ensures.value) (subst (λ r. sides c.in-Some.row.left.items r) (sym c.as_slice-right.ensures.value) (rw c.in-Some.is at c.in_ok-row_at.ensures.sides));

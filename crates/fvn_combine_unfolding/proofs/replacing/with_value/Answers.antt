@@ -8,8 +8,8 @@ use Rattle.fvn_combine_unfolding.proofs.replacing.with_value.Goals as goal
 pub returns-then-is_bound : goal.returns-then-is_bound
 returns-then-is_bound c = inl (some_of (bound c.args.s c.args.x) (sym c.is_bound.ensures ∙ c.if-is_bound.true), refl)
 
-pub bind-requires : goal.bind-requires
-bind-requires c = none_of (bound c.args.s c.args.x) (sym c.is_bound.ensures ∙ c.if-is_bound.false)
+pub with_pair-requires : goal.with_pair-requires
+with_pair-requires c = none_of (bound c.args.s c.args.x) (sym c.is_bound.ensures ∙ c.if-is_bound.false)
 
 pub returns : goal.returns
 returns c =

@@ -35,7 +35,7 @@ after_level-requires-clause-kept g c =
     let drawn = g.E.Expander.drawn c.args.task.now.expander.now in
     let start = c.args.start.now in
     let next = rw (c.as_slice.ensures.value, c.as_slice-in-loop-run.ensures.value) at c.in_ok-level.ensures in
-    kept_with_next s drawn start c.loop-run.depth (lists_of c.loop-run.run) c.loop-run.invariant.0 c.in_ok-level.level.next.items c.in_ok-level.level.end next c.args.task.now.sig.now c.requires.task.setting.declarations
+    kept_with_next s drawn start c.loop-run.depth (lists_of c.loop-run.run) c.loop-run.invariant.0 c.in_ok-level.level.next.items c.in_ok-level.level.end next c.args.task.now.sig.now c.args.task.now.limits c.requires.task.setting.declarations
 
 pub returns-in-Done : goal.returns-in-Done
 returns-in-Done g c =

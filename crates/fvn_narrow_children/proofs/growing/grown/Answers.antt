@@ -1,5 +1,5 @@
 -- One unifier more.
-use Rattle.std.proofs.Common.{sym, subst}
+use Rattle.std.proofs.Common.{sym, ◌∙◌, subst}
 use Rattle.std.proofs.lemmas.List.Elements.{All-get_or}
 use Rattle.fvn_flat.specs.Bindings.{BindingsFit}
 use Rattle.fvn_exploring.specs.declared.ends.ExpandEnd.TheVariants.{Whole}
@@ -15,6 +15,7 @@ tried-requires c =
       members = c.requires.members;
       variant = c.requires.variant;
       irreducible = c.requires.irreducible;
+      names = c.as_slice.ensures.value ∙ c.in_ok-names.ensures;
     }
 
 pub loop-s-init : goal.loop-s-init

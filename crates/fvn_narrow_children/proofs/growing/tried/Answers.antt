@@ -7,8 +7,21 @@ use Rattle.fvn_terms.specs.Signature.{IsSort}
 use Rattle.fvn_flat.specs.Bindings.{BindingsFit}
 use Rattle.fvn_rewrite.specs.Usable.{equations_by}
 use Rattle.fvn_narrow_children.specs.Values.{AreValuesUnder, IsLargeValue, AreIrreducible, AreReducibleAs}
+use Rattle.fvn_narrow_children.proofs.MovedFacts.{names_sorted, moved_is_lost}
 use Rattle.fvn_narrow_children.proofs.TriedFacts.{lost_is, large_stops}
 use Rattle.fvn_narrow_children.proofs.growing.tried.Goals as goal
+
+pub some_moved-requires : goal.some_moved-requires
+some_moved-requires c = record {
+  sorts = names_sorted c.args.rewriter.now c.args.v.now c.requires.variant c.args.names.now c.requires.names;
+  values = c.requires.unifier;
+}
+
+pub returns-then-moved : goal.returns-then-moved
+returns-then-moved c =
+    let r = c.args.rewriter.now in
+    moved_is_lost r c.args.v.now c.requires.variant c.args.names.now c.requires.names c.recall.ensures.good (c.rewriting_is_lawful.ensures r.signature (equations_by r)) (c.sequences_are_lawful.ensures r.signature (equations_by r))
+    c.args.members.now c.args.s.now c.requires.unifier (c.in_ok-moved.ensures c.if-moved.true)
 
 pub values_under-requires : goal.values_under-requires
 values_under-requires c = record {

@@ -3,5 +3,5 @@ use Rattle.std.proofs.Common.{sym, ◌∙◌}
 use Rattle.fvn_refine.proofs.Resorted.{unbound}
 use Rattle.fvn_refine.proofs.resorting.with_resorted.Goals as goal
 
-pub bind-requires : goal.bind-requires
-bind-requires c = unbound _ (sym c.is_bound.ensures ∙ c.if-is_bound.false)
+pub with_pair-requires : goal.with_pair-requires
+with_pair-requires c = unbound _ (sym c.is_bound.ensures ∙ c.if-is_bound.false)

@@ -11,17 +11,32 @@ use Rattle.fvn_flat.specs.Fits.{AllFit}
 use Rattle.fvn_flat.specs.Solving.{substitution, problem_of, Binds, IsGiven, AreUnifiers, AreBindings, AreNumbered, AreApart, AreComplete, HasCause}
 use Rattle.fvn_vunify.specs.Sides.{two_by_two}
 use Rattle.fvn_vunify.specs.inner.Ends.{first_end}
-use Rattle.fvn_vunify.specs.inner.Attempts.{AreTested, IsAttempt}
+use Rattle.fvn_vunify.specs.inner.Attempts.{SomeNeverMeet, AreTested, IsAttempt}
+use Rattle.fvn_vunify.proofs.Apart.{attempted_none}
 use Rattle.fvn_vunify.proofs.Posing.{is_given}
 use Rattle.fvn_vunify.proofs.Attempted.{attempted}
 use Rattle.fvn_vunify.proofs.solving.solve_variant.Goals as goal
+
+pub some_never_meet-apart-requires : goal.some_never_meet-apart-requires
+some_never_meet-apart-requires g c =
+    subst (AllFit c.args.sig.now) (sym c.as_slice.ensures) (rw (← c.requires.sig) at c.requires.solvable.flat.terms)
+
+pub returns-then-apart : goal.returns-then-apart
+returns-then-apart g c =
+    let s = g.E.Expander.setting c.args.expander.now in
+    let may = g.E.Expander.drawn c.args.expander.now in
+    let v = c.args.v.now in
+    let apart : SomeNeverMeet s.declarations v.terms =
+    subst (λ d. SomeNeverMeet d v.terms) c.requires.sig
+    (subst (SomeNeverMeet c.args.sig.now) c.as_slice.ensures (c.some_never_meet-apart.ensures c.if-apart.true)) in
+    attempted_none s may c.args.vars.now v apart c.new.result.items c.new.ensures.items
 
 pub pairs_under-requires-clause-names : goal.pairs_under-requires-clause-names
 pairs_under-requires-clause-names g c = c.in_ok-names.ensures.fits c.args.sig.now
 
 pub pairs_under-requires-clause-terms : goal.pairs_under-requires-clause-terms
 pairs_under-requires-clause-terms g c =
-    subst (AllFit c.args.sig.now) (sym c.as_slice.ensures) (rw (← c.requires.sig) at c.requires.solvable.flat.terms)
+    subst (AllFit c.args.sig.now) (sym c.as_slice-2.ensures) (rw (← c.requires.sig) at c.requires.solvable.flat.terms)
 
 pub solve-requires : goal.solve-requires
 solve-requires g c =
@@ -31,7 +46,7 @@ solve-requires g c =
     let good : IsGood s.declarations = subst IsGood c.requires.sig c.recall_good.ensures in
     let is : given.pairs ≡ two_by_two (map (inst s.declarations (value names)) c.args.v.now.terms) =
     subst (λ d. given.pairs ≡ two_by_two (map (inst d (value names)) c.args.v.now.terms)) c.requires.sig
-    (c.in_ok-given.ensures ∙ ap (λ l. two_by_two (map (inst c.args.sig.now (value names)) l)) c.as_slice.ensures) in
+    (c.in_ok-given.ensures ∙ ap (λ l. two_by_two (map (inst c.args.sig.now (value names)) l)) c.as_slice-2.ensures) in
     subst (λ d. IsGiven d given c.in_ok-names.next) (sym c.requires.solver.signature)
     (is_given s good c.args.vars.now c.args.v.now c.requires.solvable names c.in_ok-names.next c.in_ok-names.ensures given is)
 
@@ -66,7 +81,7 @@ returns g c =
     let good : IsGood s.declarations = subst IsGood c.requires.sig c.recall_good.ensures in
     let is : given.pairs ≡ two_by_two (map (inst s.declarations (value names)) v.terms) =
     subst (λ d. given.pairs ≡ two_by_two (map (inst d (value names)) v.terms)) c.requires.sig
-    (c.in_ok-given.ensures ∙ ap (λ l. two_by_two (map (inst c.args.sig.now (value names)) l)) c.as_slice.ensures) in
+    (c.in_ok-given.ensures ∙ ap (λ l. two_by_two (map (inst c.args.sig.now (value names)) l)) c.as_slice-2.ensures) in
     let at = c.requires.solver.signature in
     let e = c.in_ok-solved.ensures in
     let composed_is : c.in_ok-renamed.renamed ≡ composed s.declarations v.subst names = rw c.requires.sig at c.in_ok-renamed.ensures.exact in

@@ -49,6 +49,9 @@ returns-then-not-may_cover-2 c =
     let q : IsProfile (b.terms ++ values_of b) c.other.inside.profile.now = rw c.other.view_is at c.other.invariant.1 in
     refused d a b c.requires.alike (c.may_cover-2.ensures.none c.if-not-may_cover-2.true (a.terms ++ values_of a) (b.terms ++ values_of b) p q)
 
+pub returns-then-not-have_heads_of : goal.returns-then-not-have_heads_of
+returns-then-not-have_heads_of c = (λ t. cc, λ h. absurd (c.have_heads_of.ensures c.if-not-have_heads_of.true h))
+
 pub matches_both-requires-clause-patterns : goal.matches_both-requires-clause-patterns
 matches_both-requires-clause-patterns c =
     let a = c.args.self.now in

@@ -13,7 +13,7 @@ use Rattle.fvn_refine.specs.inner.Rows.{Row, IsRow, IsRowBelow, HasAbove}
 use Rattle.fvn_refine.specs.inner.Found.{AreSummands, AreRows, Finds, IsUnder, AreUnder, IsResultUnder, IsSumUnder, IsPairUnder}
 use Rattle.fvn_refine.proofs.Sorts.{variable_is, variable_or_head}
 use Rattle.fvn_refine.proofs.Finding.{ForOne, rows_found, finds_for_none, finds_for_more, finds_for_all, finds_from_rows}
-use Rattle.fvn_refine.proofs.Parts.{joined_is, joined_summands, from_sum, unjoined_is, unjoined_fits, from_over, args_places, front_none, front_next, front_all, unequal, over_all, over_fit, not_two, pair_found, all_but_last, sum_one, sum_several, front_summands, summand_fits, places_push, places_some}
+use Rattle.fvn_refine.proofs.Parts.{joined_is, joined_summands, from_sum, unjoined_is, unjoined_fits, from_over, args_places, narrow_start, narrow_found, narrow_next, front_none, front_next, front_all, unequal, over_all, over_fit, not_two, pair_found, all_but_last, sum_one, sum_several, front_summands, summand_fits, places_push, places_some}
 use Rattle.fvn_refine.proofs.lowering.Search.+lower.Goals as goal
 
 -- a term
@@ -112,6 +112,39 @@ lower_rows-returns t c =
     finds_from_rows d xs (IsUnder d xs c.args.t.now c.args.s) c.args.rows.now c.loop-row.all.items
     (finds_for_all d xs P c.args.rows.now c.loop-row.row-index c.loop-row-test.false c.loop-row.all.items c.loop-row.invariant)
 
+-- arguments, but for the largest
+pub narrowed-returns-then-large-ts : goal.narrowed-returns-then-large-ts
+narrowed-returns-then-large-ts t c =
+    let d = c.args.self.now.sig.now in
+    let xs = c.args.self.now.vars.now in
+    narrow_start d xs c.args.way.now (AreUnder d xs c.args.ts.now c.args.args.now) c.requires.row c.in_ok-rows.rows.items c.in_ok-rows.ensures
+
+pub narrowed-loop-i-init : goal.narrowed-loop-i-init
+narrowed-loop-i-init t c =
+    let d = c.args.self.now.sig.now in
+    let xs = c.args.self.now.vars.now in
+    narrow_start d xs c.args.way.now (AreUnder d xs c.args.ts.now c.args.args.now) c.requires.row c.in_ok-rows.rows.items c.in_ok-rows.ensures
+
+pub narrowed-bounds-args-i : goal.narrowed-bounds-args-i
+narrowed-bounds-args-i t c = omega (arith, c.requires.long, c.loop-i-test.true)
+
+pub narrowed-lower_rows-requires : goal.narrowed-lower_rows-requires
+narrowed-lower_rows-requires t c =
+    let d = c.args.self.now.sig.now in
+    let xs = c.args.self.now.vars.now in (
+      omega (arith, places_at c.args.ts.now c.loop-i.i c.index-ts-i.result c.loop-i-test.true c.index-ts-i.is),
+      (
+        subst (AreRows d xs) (sym c.as_slice.ensures.value) (λ r k. (c.loop-i.invariant.found r k).0),
+        each_at (Fits d) c.args.ts.now c.requires.terms c.loop-i.i c.index-ts-i.result c.loop-i-test.true c.index-ts-i.is,
+      ),
+    )
+
+pub narrowed-loop-i-preserved : goal.narrowed-loop-i-preserved
+narrowed-loop-i-preserved t c =
+    narrow_next c.args.self.now.sig.now c.args.self.now.vars.now c.args.way.now c.args.ts.now c.args.args.now c.loop-i.i c.index-ts-i.result _
+    c.loop-i-test.true c.index-ts-i.is c.loop-i.rows.items c.as_slice.result.now c.in_ok-rows-2.rows.items
+    c.as_slice.ensures.value c.loop-i.invariant c.in_ok-rows-2.ensures
+
 -- arguments, one after another
 pub lower_all-returns-then-ts-args : goal.lower_all-returns-then-ts-args
 lower_all-returns-then-ts-args t c =
@@ -123,7 +156,7 @@ lower_all-returns-then-ts-args t c =
 pub lower_all-loop-i-init : goal.lower_all-loop-i-init
 lower_all-loop-i-init t c =
     front_none c.args.self.now.sig.now c.args.self.now.vars.now c.recall_good.ensures c.args.way.now c.args.ts.now c.args.args.now
-    c.requires.row c.requires.terms c.if-ts-args.false c.in_ok-rows.rows.items c.in_ok-rows.ensures
+    c.requires.terms c.if-ts-args.false c.in_ok-rows.rows.items c.in_ok-rows.ensures
 
 pub lower_all-bounds-args-i : goal.lower_all-bounds-args-i
 lower_all-bounds-args-i t c = omega (arith, c.if-ts-args.false, c.loop-i-test.true)
@@ -258,8 +291,16 @@ lower_pair-returns-in-None t c =
     subst (Finds d xs (λ m. IsRowBelow d m c.args.way.now × IsPairUnder d xs c.args.f c.args.front.now c.args.last.now c.args.args.now m)) (sym c.new.ensures.items)
     (not_two d xs c.args.way.now c.args.f c.args.front.now c.args.last.now c.args.args.now c.in-None.ensures)
 
-pub lower_pair-lower-requires : goal.lower_pair-lower-requires
-lower_pair-lower-requires t c = (omega arith, (c.requires.row, c.requires.term))
+pub lower_pair-narrowed_sum-requires : goal.lower_pair-narrowed_sum-requires
+lower_pair-narrowed_sum-requires t c = (omega (arith, places_some c.args.last.now), (c.requires.row, c.requires.sum))
+
+pub lower_pair-lower_rows-requires : goal.lower_pair-lower_rows-requires
+lower_pair-lower_rows-requires t c =
+    let d = c.args.self.now.sig.now in
+    let xs = c.args.self.now.vars.now in (
+      omega arith,
+      (subst (AreRows d xs) (sym c.as_slice.ensures.value) (λ r k. (c.in_ok-start.ensures.found r k).0), c.requires.term),
+    )
 
 pub lower_pair-lower_sum_rows-requires : goal.lower_pair-lower_sum_rows-requires
 lower_pair-lower_sum_rows-requires t c =
@@ -267,7 +308,7 @@ lower_pair-lower_sum_rows-requires t c =
     let xs = c.args.self.now.vars.now in (
       omega (arith, places_some c.args.last.now),
       (
-        subst (AreRows d xs) (sym c.as_slice.ensures.value) (rows_found d xs (λ m. IsRowBelow d m c.args.way.now × IsUnder d xs c.args.last.now c.in-Some.pair.1 m) c.in_ok-rows.rows.items c.in_ok-rows.ensures),
+        subst (AreRows d xs) (sym c.as_slice-2.ensures.value) (rows_found d xs (λ m. HasAbove d c.as_slice.result.now m × IsUnder d xs c.args.last.now c.in-Some.pair.1 m) c.in_ok-rows.rows.items c.in_ok-rows.ensures),
         c.requires.sum,
       ),
     )
@@ -277,8 +318,25 @@ lower_pair-returns t c =
     let d = c.args.self.now.sig.now in
     let xs = c.args.self.now.vars.now in
     pair_found d xs c.recall_good.ensures c.args.way.now c.args.f c.args.front.now c.args.last.now c.requires.term c.in-Some.pair.0 c.in-Some.pair.1 c.args.args.now c.in-Some.ensures
-    c.in_ok-rows.rows.items c.in_ok-all.all.items c.in_ok-rows.ensures
-    (subst (λ l. Finds d xs (λ m. HasAbove d l m × IsSumUnder d xs c.args.f c.args.front.now c.in-Some.pair.0 m) c.in_ok-all.all.items) c.as_slice.ensures.value c.in_ok-all.ensures)
+    c.in_ok-start.start.items c.in_ok-rows.rows.items c.in_ok-all.all.items c.in_ok-start.ensures
+    (subst (λ l. Finds d xs (λ m. HasAbove d l m × IsUnder d xs c.args.last.now c.in-Some.pair.1 m) c.in_ok-rows.rows.items) c.as_slice.ensures.value c.in_ok-rows.ensures)
+    (subst (λ l. Finds d xs (λ m. HasAbove d l m × IsSumUnder d xs c.args.f c.args.front.now c.in-Some.pair.0 m) c.in_ok-all.all.items) c.as_slice-2.ensures.value c.in_ok-all.ensures)
+
+-- the first summands, before a large one
+pub narrowed_sum-returns-then-not-large : goal.narrowed_sum-returns-then-not-large
+narrowed_sum-returns-then-not-large t c =
+    let d = c.args.self.now.sig.now in
+    let xs = c.args.self.now.vars.now in
+    narrow_start d xs c.args.way.now (IsSumUnder d xs c.args.f c.args.ts.now c.args.s) c.requires.row c.in_ok-rows.rows.items c.in_ok-rows.ensures
+
+pub narrowed_sum-lower_sum-requires : goal.narrowed_sum-lower_sum-requires
+narrowed_sum-lower_sum-requires t c = (omega arith, (c.requires.row, c.requires.sum))
+
+pub narrowed_sum-returns : goal.narrowed_sum-returns
+narrowed_sum-returns t c =
+    let d = c.args.self.now.sig.now in
+    let xs = c.args.self.now.vars.now in
+    narrow_found d xs c.args.way.now (IsSumUnder d xs c.args.f c.args.ts.now c.args.s) c.in_ok-rows-2.rows.items c.in_ok-rows-2.ensures
 
 -- rows for a sum, one after another
 pub lower_sum_rows-lower_sum-requires : goal.lower_sum_rows-lower_sum-requires

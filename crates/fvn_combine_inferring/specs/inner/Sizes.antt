@@ -1,0 +1,38 @@
+-- Sizes of values: classes whose values have no more symbols than those of others, or fewer.
+use Rattle.std.specs.Prelude.{◌≡◌, ℕ, ◌≤◌, ◌<◌, Bool, true, false, List, All}
+use Rattle.fvn_terms.specs.declared.plain.OpId.{OpId}
+use Rattle.fvn_terms.specs.declared.declarations.Declarations.{Declarations}
+use Rattle.fvn_forms.specs.Flat.{FlatTerm, symbols}
+use Rattle.fvn_combine_nodes.specs.Table.{NodeTable}
+use Rattle.fvn_combine_nodes.specs.States.{class_of}
+use Rattle.fvn_combine_nodes.specs.declared.state.State.{State}
+use Rattle.fvn_combine_inferring.specs.Sorted.{GoWithSorts}
+use Rattle.fvn_combine_inferring.specs.Rows.{times}
+use Rattle.fvn_combine_inferring.specs.declared.sizes.Inside.{Inside}
+
+-- m is no more than n, or less
+abbrev pub IsLess : Bool → ℕ → ℕ → Type 0
+IsLess false m n = m ≤ n
+IsLess true m n = m < n
+
+-- a pair holds of weights of classes
+abbrev pub IsSaid : (ℕ → ℕ) → Inside → Type 0
+IsSaid w e = IsLess e.proper (w e.small) (w e.large)
+
+-- all pairs do
+abbrev pub AreSaid : (ℕ → ℕ) → List Inside → Type 0
+AreSaid w list = All (IsSaid w) list
+
+module _ (s : State) (values : ℕ → FlatTerm) where
+  -- the symbols of the value of the class of node k
+  abbrev pub size : ℕ → ℕ
+  size k = symbols (values (class_of s k))
+
+module _ (d : Declarations) (t : NodeTable) (s : State) (sorted : Bool) where
+  -- the pairs hold of the sizes of all values that go with the state
+  abbrev pub AreInside : List Inside → Type 0
+  AreInside list = (values : ℕ → FlatTerm) → GoWithSorts d t s sorted values → AreSaid (size s values) list
+
+  -- whatever values go with the state, that of the class of node k is no summand of that of the class of node l
+  abbrev pub IsNoSummand : OpId → ℕ → ℕ → Type 0
+  IsNoSummand f k l = (values : ℕ → FlatTerm) → GoWithSorts d t s sorted values → times d s f values (values (class_of s k)) l ≡ 0
