@@ -86,7 +86,9 @@ fmod DOUBLE is sort S . op a : -> S . ops f g : S -> S . op p : S S -> S . var X
 variants | g(f(f(f(~123 g(~a~123 )~)))) ==> 1 lines | complete 1
 variants | g(g(f(f(f(~123 g(~a~123 )~))))) ==> bound size 1000
 vunify | f(f(f(~123 g(~a~123 )~))) =? a ==> complete 0
-vunify | g(f(f(f(~123 g(~a~123 )~)))) =? a ==> bound size 1000
+vunify | g(f(f(f(~123 g(~a~123 )~)))) =? a ==> complete 0
+vunify | f(f(f(~123 g(~a~123 )~))) =? X ==> 1 lines | complete 1
+vunify | g(f(f(f(~123 g(~a~123 )~)))) =? X ==> bound size 1000
 verify | g(f(f(f(~123 g(~a~123 )~)))) =? a | {} ==> no 1
 verify | g(g(f(f(f(~123 g(~a~123 )~))))) =? a | {} ==> bound size 1000
 
