@@ -20,10 +20,13 @@ use self::given::is_given;
 use fvn_base::Seq;
 use fvn_flat::Pairs;
 use fvn_combine_inferring::{Inferred, Known, differ, infer, known_of};
-use fvn_combine_leaves::{Reading, first_question, question_on_all, question_on_touched, read};
+use fvn_combine_leaves::Reading;
+use fvn_combine_questions::{first_question, question_on_all, question_on_touched};
+use fvn_combine_reading::read;
 use fvn_lindio::Solution;
-use fvn_combine_nodes::{State, Table, Tree, table_of};
-use fvn_combine_candidates::{bases, option_counts, shared, tags_of, wheels};
+use fvn_combine_nodes::{State, Table};
+use fvn_combine_tree::{Tree, table_of};
+use fvn_combine_candidates::{bases, bases_from_last, option_counts, shared, tags_of, wheels};
 use fvn_tests_samples::{problem_of, signature_of};
 use fvn_sorts::Signature;
 use fvn_terms::NoMemory;
@@ -97,12 +100,16 @@ fn look_further(
     if let Some(pair) = first_question(sig, table, state, reading) {
         return Ok(question(sig, table, state, known, pair));
     }
-    match bases(alloc, sig, table, state, reading) {
-        Err(_) => match question_on_all(sig, table, state, reading) {
+    let lists = match bases(alloc, sig, table, state, reading) {
+        Err(_) => bases_from_last(alloc, sig, table, state, reading, true)?,
+        Ok(lists) => Some(lists),
+    };
+    match lists {
+        None => match question_on_all(sig, table, state, reading) {
             Some(pair) => Ok(question(sig, table, state, known, pair)),
             None => Ok(Looked::Refused),
         },
-        Ok(lists) => match question_on_touched(sig, table, state, reading, lists.as_slice()) {
+        Some(lists) => match question_on_touched(sig, table, state, reading, lists.as_slice()) {
             Some(pair) => Ok(question(sig, table, state, known, pair)),
             None => opened(alloc, sig, table, state, reading, lists.as_slice()),
         },

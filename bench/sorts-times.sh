@@ -12,7 +12,7 @@ limit=${LIMIT:-60}
 rows=${ROWS:-}
 there=$(mktemp -d)
 trap 'rm -rf "$there"' EXIT
-python3 "$here/bench/crates.py" "$there" 'sorts_times: fvn_base fvn_signature fvn_sorts fvn_terms thiserror'
+python3 "$here/bench/crates.py" "$there" 'sorts_times: fvn_base fvn_signature_draft fvn_sorts fvn_terms thiserror'
 mkdir -p "$there/crates/sorts_times/src" "$there/crates/sorts_times/proofs/tests/all_names"
 cd "$there/crates/sorts_times"
 cat > src/lib.rt <<'LIBRARY'
@@ -26,7 +26,7 @@ cat > proofs/tests/all_names/Invariants.antt <<'PROOF'
 -- The invariant of the test of all names.
 use Rattle.std.proofs.Common.{ℕ, ◌<◌, get_or}
 use Rattle.fvn_terms.specs.declared.plain.SortId.{SortId}
-use Rattle.fvn_signature.specs.Collected.{Names}
+use Rattle.fvn_signature_draft.specs.Collected.{Names}
 use Rattle.sorts_times.proofs.tests.all_names.Given as goal
 
 -- those so far name sorts
@@ -36,7 +36,7 @@ PROOF
 cat > src/tests.rt <<'PROGRAM'
 //! Times of `finish` over signatures made by formulas, which the script beside writes as Maude modules too.
 ghost use Rattle.std.specs.Prelude.{◌<◌, All, IsTrue};
-ghost use Rattle.fvn_signature.specs.Collected.{Names};
+ghost use Rattle.fvn_signature_draft.specs.Collected.{Names};
 
 use fvn_base::Seq;
 use fvn_sorts::{SigFault, SignatureBuilder};

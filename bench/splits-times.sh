@@ -4,7 +4,7 @@ set -e
 here=$(cd "$(dirname "$0")/.." && pwd)
 there=$(mktemp -d)
 trap 'rm -rf "$there"' EXIT
-python3 "$here/bench/crates.py" "$there" 'times: fvn_base fvn_combine_nodes fvn_flat fvn_forms fvn_purify fvn_sorts fvn_terms'
+python3 "$here/bench/crates.py" "$there" 'times: fvn_base fvn_combine_tree fvn_flat fvn_forms fvn_purify fvn_sorts fvn_terms'
 mkdir -p "$there/crates/times/src"
 cd "$there/crates/times"
 cat > src/main.rt <<'PROGRAM'
@@ -13,7 +13,7 @@ cat > src/main.rt <<'PROGRAM'
 
 use fvn_base::Seq;
 use fvn_flat::{Pairs, flatten};
-use fvn_combine_nodes::{start, table_of};
+use fvn_combine_tree::{start, table_of};
 use fvn_purify::{Splits, purify};
 use fvn_sorts::{Signature, SignatureBuilder};
 use fvn_terms::{Args, Axioms, NoMemory, OpId, Plain, Rank, SortId, Var};

@@ -4,8 +4,8 @@
 tools/edits.py --apply-only      says, by text alone, whether each of them still applies exactly once
 tools/edits.py --try NAME..      tries those beside the gate of these crates: each has to be refused
 
-The second works in a copy, over what `rt check` kept of the crates that are named, or else over what `rt ci` or ./build proved on this machine; what
-neither has is proved first."""
+The second works in a copy, by `rt must-fail`, over what `rt check` kept in the folders of these crates and of those below; what it kept nothing of is
+built first, one crate after another."""
 import collections
 import os
 import re
@@ -94,9 +94,7 @@ def link(file, to):
 
 
 def with_kept(room, names, uses):
-    """Gives the copied crates that are named, and those below them, what `rt check` kept, and returns whether it kept the work of each that is named."""
-    if not all(os.path.isdir(f"{TOP}/crates/{name}/out/incremental") for name in names):
-        return False
+    """Gives the copied crates that are named, and those below them, what `rt check` kept."""
     wanted = list(names)
     for name in wanted:
         wanted += [it for it in uses[name] if it in uses and it not in wanted]
@@ -104,7 +102,6 @@ def with_kept(room, names, uses):
         for part in ("rlib", "incremental") if name in names else ("rlib",):
             if os.path.isdir(f"{TOP}/crates/{name}/out/{part}"):
                 shutil.copytree(f"{TOP}/crates/{name}/out/{part}", f"{room}/crates/{name}/out/{part}", copy_function=link, symlinks=True)
-    return True
 
 
 def try_beside(names):
@@ -120,9 +117,9 @@ def try_beside(names):
         shutil.copytree(f"{TOP}/crates", f"{room}/crates", ignore=shutil.ignore_patterns("out", GATE, BESIDE))
         for name in names:
             shutil.copytree(f"{TOP}/crates/{name}/{BESIDE}", f"{room}/crates/{name}/{GATE}")
-        command = "must-fail" if with_kept(room, names, uses) else "ci"
+        with_kept(room, names, uses)
         said = ""
-        with subprocess.Popen(["rt", command, *names], cwd=room, stdout=subprocess.PIPE, text=True, errors="replace") as ran:
+        with subprocess.Popen(["rt", "must-fail", *names], cwd=room, stdout=subprocess.PIPE, text=True, errors="replace") as ran:
             for line in ran.stdout:
                 said += line
                 print(line, end="", flush=True)

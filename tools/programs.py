@@ -19,6 +19,7 @@ import time
 TOP = os.path.dirname(os.path.dirname(os.path.abspath(__file__)))
 OUT = f"{TOP}/out"
 PROGRAM = "fvn"
+PARTS = ("src", "specs", "proofs")
 # A file's time can be some milliseconds behind the clock.
 BEHIND = 20_000_000
 # How often the program is run while it is built, each of which gives a chance to keep it.
@@ -54,17 +55,21 @@ def sums(top):
     names = sorted(needed(uses))
     code = hashlib.sha256(repr([(it, uses[it]) for it in names]).encode())
     whole = None
-    for part in ("src", "specs", "proofs"):
+    for part in PARTS:
         if part == "proofs":
             whole = code.copy()
-        into = whole or code
         for name in names:
-            for at, folders, files in os.walk(f"{top}/crates/{name}/{part}"):
-                folders.sort()
-                for file in sorted(files):
-                    with open(f"{at}/{file}", "rb") as it:
-                        into.update(repr((os.path.relpath(f"{at}/{file}", top), it.read())).encode())
+            read_into(whole or code, top, name, part)
     return code.hexdigest(), whole.hexdigest()
+
+
+def read_into(sum, top, name, part):
+    """Adds the files of a part of a crate to a checksum."""
+    for at, folders, files in os.walk(f"{top}/crates/{name}/{part}"):
+        folders.sort()
+        for file in sorted(files):
+            with open(f"{at}/{file}", "rb") as it:
+                sum.update(repr((os.path.relpath(f"{at}/{file}", top), it.read())).encode())
 
 
 def copy(to):

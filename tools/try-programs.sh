@@ -1,6 +1,7 @@
 #!/usr/bin/env bash
-# Tries ./fvn and ./build on a small repository that it makes: a first answer, the proved program, links, changes, a proof that fails,
-# text that is not code, no kit. It ends with 0 where each does as it should, and takes some minutes. It is no part of the gate.
+# Tries ./fvn and ./build on a small repository that it makes: a first answer, a build that is broken off, the proved program, links,
+# changes, a proof that fails, text that is not code, no kit. It ends with 0 where each does as it should, and takes some minutes. It is
+# no part of the gate.
 set -uo pipefail
 top=$(cd "$(dirname "${BASH_SOURCE[0]}")/.." && pwd)
 room=$(mktemp -d)
@@ -11,10 +12,11 @@ cd "$room/a folder" || exit
 touch crates.txt
 for crate in fvn_low fvn_mid; do rt new crates/$crate start_lib >/dev/null || exit; done
 rt new crates/fvn start_io >/dev/null || exit
+rm -f BUILD.bazel MODULE.bazel crates/*/BUILD.bazel
 printf 'fvn_low:\nfvn_mid: fvn_low\nfvn: fvn_mid\n' >crates.txt
 echo 'Handles allowed: none.' >HANDLES
 cp "$top/fvn" "$top/build" .
-cp "$top/tools/programs.py" tools/
+cp "$top/tools/programs.py" "$top/tools/proving.py" tools/
 low=crates/fvn_low/src/lib.rt
 cp $low "$room/low"
 plain=/usr/bin:/bin
@@ -38,7 +40,17 @@ seems() {
 seems 'no kit, nothing built' 125 '' 'not on the path' env PATH=$plain ./fvn
 seems 'a first answer' 0 'egg 7:00' 'not proved' ./fvn
 seems 'a second one, with no kit' 0 'egg 7:00' 'not proved' env PATH=$plain ./fvn
-./build || failed=1
+./build >"$room/log" 2>&1 &
+built=$!
+until grep -q 'is proved' "$room/log" || ! kill -0 $built 2>/dev/null; do sleep 0.1; done
+kill $built 2>/dev/null
+wait $built
+if ./build >"$room/again" 2>&1 && grep -q '^1 of 3 crates were proved' "$room/again"; then
+  echo 'well: a build that was broken off goes on'
+else
+  echo "not well: a build that was broken off: $(cat "$room/log" "$room/again")"
+  failed=1
+fi
 seems 'the proved program' 0 'egg 7:00' - ./fvn
 ln -s "$room/a folder/fvn" "$room/link"
 seems 'by a link, from another folder' 0 'egg 7:00' - env -C / "$room/link"

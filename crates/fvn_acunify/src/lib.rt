@@ -3,6 +3,7 @@
 
 mod choices;
 mod laws;
+pub mod limits;
 mod prefix;
 mod solve;
 mod theory;

@@ -8,6 +8,7 @@ ghost use Rattle.fvn_acunify.specs.ValidChoice.{IsValid};
 ghost use Rattle.fvn_acunify.specs.Cursor.{Pending, unbounded};
 
 use crate::choices::Choices;
+use crate::limits::LISTED_SOLUTIONS;
 use crate::theory::{OneFault, OneTheory};
 use fvn_base::Seq;
 use fvn_base::limits::{COMPONENT, MINIMAL_SOLUTIONS};
@@ -61,7 +62,8 @@ fn copied(alloc: Global, solutions: &[Solution]) -> Result<Vec<Solution>, AllocE
     Ok(all)
 }
 
-/// The valid choices among these minimal solutions of the theory's system.
+/// The valid choices among these minimal solutions of the theory's system, of which there may be at
+/// most 31.
 pub fn choices_among(
     alloc: Global,
     theory: &OneTheory,
@@ -70,7 +72,7 @@ pub fn choices_among(
     requires theory { IsOneTheory theory.now }
     requires minimal { (v : List ℕ) → Contains (vectors_of solutions.now) v →
         IsMinimal theory.now.system.columns (rows_of theory.now.system) v }
-    requires few { length solutions.now ≤ MINIMAL_SOLUTIONS }
+    requires few { length solutions.now ≤ LISTED_SOLUTIONS }
     requires narrow { All (All (λ a. a ≤ COMPONENT)) (vectors_of solutions.now) }
 
     ensures basis { IfOk result (λ c. c.basis ≡ solutions.now) }

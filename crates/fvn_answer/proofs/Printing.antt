@@ -154,6 +154,17 @@ declared-text d names text x st s low is =
     append_assoc (text ++ x) (58 ∷ []) st ∙ append_assoc text x (58 ∷ st)
     ∙ rw (e, it) (ap (λ t. text ++ t) (sym (append-nil (x ++ 58 ∷ st))))
 
+-- the sort of a variable stands behind its name
+pub sorted-behind : (d : Declarations) (names : Names) (x : Text) (s : SortId) → x ++ text_of (sorted d names [] s) ≡ text_of (sorted d names x s)
+unfolding join join_after needs_space
+sorted-behind d names x s = go (nat_lt s.0 d.sorts) refl
+  where
+    go : (b : Bool) → nat_lt s.0 d.sorts ≡ b → x ++ text_of (sorted d names [] s) ≡ text_of (sorted d names x s)
+    go true e = rw e (sym (append_assoc x (58 ∷ sort_text d names s) []))
+    go false e =
+        let r : is_quoted_after false (x ++ 58 ∷ []) ≡ false = quoted-append false x (58 ∷ []) in
+        rw (e, r) (sym (append_assoc x (58 ∷ []) _))
+
 -- NAME:[SORT]
 pub kind-text : (d : Declarations) (names : Names) (text x st : Text) (s : SortId) → d.sorts ≤ s.0 → slice_get names.sorts (top d s).0 ≡ Some st → IsFilled st →
     beside (text ++ x ++ (58 ∷ []) ++ (91 ∷ []) ++ st) 93 ≡ text ++ text_of (sorted d names x s)

@@ -103,6 +103,15 @@ fn in_order(lines: Vec<Line>) -> Result<Vec<Line>, NoMemory>
     Ok(sorted)
 }
 
+// The bytes of lines and of a last one, each with its line feed.
+fn room(lines: &[Line], last: usize) -> usize {
+    let mut bytes = last.saturating_add(1);
+    for line in lines {
+        bytes = bytes.saturating_add(line.len()).saturating_add(1);
+    }
+    bytes
+}
+
 // The text goes on with a line.
 fn push_line(text: &mut Vec<u8>, line: &[u8]) -> Result<(), NoMemory>
     ensures { OnOk result (text.new.items ≡ text.old.items ++ ended (line.now ∷ [])) }
@@ -136,7 +145,7 @@ pub fn answer_text(
     declared.recall_readable();
     let sorted = in_order(lines)?;
     let last = end_line(alloc, declared.signature(), declared.names(), end)?;
-    let mut text = Vec::new(alloc);
+    let mut text = Vec::with_capacity(alloc, room(sorted.as_slice(), last.len()))?;
     push_lines(&mut text, sorted.as_slice())?;
     push_line(&mut text, last.as_slice())?;
     Ok(text)

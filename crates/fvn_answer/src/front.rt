@@ -100,7 +100,7 @@ pub(crate) fn new_front(
         return Ok(front);
     }
     let mut text = Vec::new(alloc);
-    push_new(alloc, signature, names, fixed.order, &mut text, x)?;
+    push_new(signature, names, fixed.order, &mut text, x)?;
     Ok(closed(alloc, text))
 }
 

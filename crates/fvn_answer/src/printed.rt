@@ -23,6 +23,9 @@ pub(crate) enum Printed<'a> {
     Variant(&'a Flat, &'a Subst, &'a [Var]),
 }
 
+// The bytes for which there is room at first for each binding of a line.
+const BINDING: usize = 16;
+
 /// The text goes on with what stands before a binding.
 pub(crate) fn push_between(text: &mut Vec<u8>, first: bool) -> Result<(), NoMemory>
     ensures { OnOk result (text.new.items ≡ between first text.old.items) }
@@ -51,7 +54,7 @@ fn push_value(
         text.old.items ++ text_of (written signature.now names.now order.now (value subst.now x))) }
 {
     match subst.get(x) {
-        None => push_new(alloc, signature, names, order, text, x),
+        None => push_new(signature, names, order, text, x),
         Some(t) => {
             let whole = term_text(alloc, signature, names, order, t)?;
             text.extend_from_slice(whole.as_slice())?;
@@ -100,7 +103,7 @@ fn values_text(
         text signature.now names.now var_names.now.texts order.now
         (values (values_of subst.now vars.now))) }
 {
-    let mut line = Vec::new(alloc);
+    let mut line = Vec::with_capacity(alloc, vars.len().saturating_mul(BINDING))?;
     line.push(b'{')?;
     let mut first = true;
     for x in vars {

@@ -92,7 +92,6 @@ pub(crate) fn number(order: &[Var], x: Var) -> usize
 
 /// The text goes on with a new variable.
 pub(crate) fn push_new(
-    alloc: Global,
     signature: &Signature,
     names: &Names,
     order: &[Var],
@@ -105,10 +104,10 @@ pub(crate) fn push_new(
         text.old.items ++ text_of (sorted signature.now names.now (new_name order.now x) x.sort)) }
 {
     let mut buffer = Buffer::new();
-    let mut name = Vec::new(alloc);
-    name.push(b'#')?;
-    name.extend_from_slice(buffer.format(number(order, x)).as_bytes())?;
-    push_sorted(signature, names, text, name.as_slice(), x.sort)
+    text.push(b'#')?;
+    text.extend_from_slice(buffer.format(number(order, x)).as_bytes())?;
+    push_sorted(signature, names, text, &[], x.sort)?;
+    Ok(())
 }
 
 /// The texts of an operator's arguments, in byte order where they may be exchanged.
@@ -122,11 +121,21 @@ pub(crate) fn arrange(axioms: Axioms, texts: &mut Vec<Vec<u8>>) -> Result<(), No
     Ok(())
 }
 
+// The bytes of a name over texts, or a few more.
+fn room(name: &[u8], texts: &[Vec<u8>]) -> usize {
+    let mut bytes = name.len().saturating_add(2);
+    for t in texts {
+        bytes = bytes.saturating_add(t.len()).saturating_add(1);
+    }
+    bytes
+}
+
 /// A name, and in parentheses the texts of arguments where there are any.
 pub(crate) fn over(alloc: Global, name: &[u8], texts: &[Vec<u8>]) -> Result<Vec<u8>, NoMemory>
     ensures { IfOk result (λ text. text.items ≡ over_texts name.now (bytes_of texts.now)) }
 {
-    let mut text = Vec::from_slice(alloc, name)?;
+    let mut text = Vec::with_capacity(alloc, room(name, texts))?;
+    text.extend_from_slice(name)?;
     if texts.is_empty() {
         return Ok(text);
     }
@@ -151,6 +160,11 @@ pub(crate) fn operator(t: &Flat) -> OpId
     }
 }
 
+// How many arguments a term has.
+fn arity(t: &Flat) -> usize {
+    t.args().len()
+}
+
 /// The text of a term.
 pub(crate) fn term_text(
     alloc: Global,
@@ -167,12 +181,12 @@ pub(crate) fn term_text(
     match t.as_var() {
         Some(x) => {
             let mut text = Vec::new(alloc);
-            push_new(alloc, signature, names, order, &mut text, x)?;
+            push_new(signature, names, order, &mut text, x)?;
             Ok(text)
         }
         None => {
             let f = operator(t);
-            let mut texts = Vec::new(alloc);
+            let mut texts = Vec::with_capacity(alloc, arity(t))?;
             for u in t.args() {
                 let text = term_text(alloc, signature, names, order, u)?;
                 texts.push(text)?;

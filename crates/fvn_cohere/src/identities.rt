@@ -4,7 +4,7 @@ ghost use Rattle.fvn_terms.specs.declared.plain.OpId.{OpId};
 ghost use Rattle.fvn_forms.specs.SortOrder.{at_or_below};
 ghost use Rattle.fvn_forms.specs.Ranks.{result as least_result};
 ghost use Rattle.fvn_rewrite_laws.specs.Identities.{is_listed_op, with_operator, identities};
-ghost use Rattle.fvn_signature.specs.Collected.{first_sorts};
+ghost use Rattle.fvn_signature.specs.FirstSorts.{first_sorts};
 ghost use Rattle.fvn_rewrite_laws.specs.Choices.{sorts_below};
 
 use fvn_signature::Signature;

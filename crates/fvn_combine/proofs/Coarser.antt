@@ -17,7 +17,7 @@ use Rattle.fvn_flat.specs.SolvedLists.{IsKindUnifier, component}
 use Rattle.fvn_combine_nodes.specs.Laws.{class_at, NodePartitionsArePartitions, UnifiersPartition}
 use Rattle.fvn_combine_nodes.specs.States.{Admits, IsClosed, class_of}
 use Rattle.fvn_combine_nodes.specs.Table.{term_at}
-use Rattle.fvn_combine_nodes.specs.Trees.{AreClosed}
+use Rattle.fvn_combine_tree.specs.Trees.{AreClosed}
 use Rattle.fvn_combine_nodes.specs.Unifiers.{kernel}
 use Rattle.fvn_combine_nodes.specs.declared.state.State.{State}
 use Rattle.fvn_combine_nodes.proofs.Admitting.{admits_same, admits_apart, named_within, decided}

@@ -6,7 +6,7 @@ use Rattle.std.proofs.lemmas.List.{get_or_default}
 use Rattle.std.proofs.lemmas.Option.{slice_get_cases}
 use Rattle.std.proofs.lemmas.Slice.Zip.{AllZip-long}
 use Rattle.fvn_base.proofs.Options.{Some-injective}
-use Rattle.fvn_base.specs.declared.limits.TheConstants.{MINIMAL_SOLUTIONS}
+use Rattle.fvn_acunify.specs.declared.limits.TheConstants.{LISTED_SOLUTIONS}
 use Rattle.fvn_terms.specs.declared.plain.OpId.{OpId}
 use Rattle.fvn_terms.specs.Substitution.{Substitution}
 use Rattle.fvn_lindio.specs.declared.system.Solution.{Solution}
@@ -28,9 +28,9 @@ use Rattle.fvn_combine.proofs.Room.{room}
 
 module _ (k : Combining) (s : State) (r : Reading) (bases : List (List Solution)) where
   -- no list of minimal solutions is long
-  few_each : AreBases r.sums bases → All (λ basis. length basis ≤ MINIMAL_SOLUTIONS) bases
+  few_each : AreBases r.sums bases → All (λ basis. length basis ≤ LISTED_SOLUTIONS) bases
   few_each are i d l = elim (slice_get_cases r.sums i).1 [
-    | inl e ↦ subst (λ b. length b ≤ MINIMAL_SOLUTIONS) (get_or_default bases i [] d l) (are.each i e.0 e.2).few
+    | inl e ↦ subst (λ b. length b ≤ LISTED_SOLUTIONS) (get_or_default bases i [] d l) (are.each i e.0 e.2).few
     | inr n ↦ let m = are.as_many in let o = n.0 in absurd (omega (arith, l, m, o))
   ]
 

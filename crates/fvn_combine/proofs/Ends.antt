@@ -8,7 +8,7 @@ use Rattle.fvn_terms.specs.Substitution.{Substitution}
 use Rattle.fvn_lindio.specs.declared.system.System.{System}
 use Rattle.fvn_base.proofs.Membership.{contains_cases, contains_none}
 use Rattle.fvn_combine_nodes.specs.States.{IsClosed, class_of}
-use Rattle.fvn_combine_nodes.specs.Trees.{AreClosed, IsPartedFrom, AreInOrder}
+use Rattle.fvn_combine_tree.specs.Trees.{AreClosed, IsPartedFrom, AreInOrder}
 use Rattle.fvn_combine_nodes.specs.Unifiers.{kernel}
 use Rattle.fvn_combine_nodes.proofs.Admitting.{admits_itself}
 use Rattle.fvn_combine_nodes.specs.declared.state.State.{State}

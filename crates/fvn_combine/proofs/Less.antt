@@ -8,11 +8,11 @@ use Rattle.std.proofs.lemmas.List.Elements.{All-tail, All-contains}
 use Rattle.std.proofs.lemmas.Option.{slice_get_cases, slice_get-get_or}
 use Rattle.fvn_base.proofs.Membership.{map_contains}
 use Rattle.fvn_base.proofs.Pigeonhole.{length-le_below}
-use Rattle.fvn_base.specs.declared.limits.TheConstants.{MINIMAL_SOLUTIONS}
+use Rattle.fvn_acunify.specs.declared.limits.TheConstants.{LISTED_SOLUTIONS}
 use Rattle.fvn_terms.specs.declared.plain.OpId.{OpId}
 use Rattle.fvn_lindio.specs.declared.system.Solution.{Solution}
 use Rattle.fvn_combine_nodes.specs.States.{class_of}
-use Rattle.fvn_combine_nodes.specs.Trees.{weight}
+use Rattle.fvn_combine_tree.specs.Trees.{weight}
 use Rattle.fvn_combine_nodes.specs.declared.state.State.{State}
 use Rattle.fvn_combine_leaves.specs.Readings.{IsReading}
 use Rattle.fvn_combine_leaves.specs.declared.reading.Reading.{Reading}
@@ -88,16 +88,16 @@ module _ (k : Combining) (few : SumOperatorsAreFew) (s : State) (r : Reading) (r
   -- and few numbers under each of them
   pub few_numbers : (bases : List (List Solution)) → AreBases r.sums bases → (tag : ℕ → Option OpId) (wheels : List Wheel) → AreWheels k.declarations k.table (class_of s) tag r.sums bases wheels → product (counts_of wheels) ≤ most_numbers k
   unfolding most_numbers
-  few_numbers bases are tag wheels asked = product-le (λ (w : Wheel). 2 ^ length w.basis) (2 ^ MINIMAL_SOLUTIONS) (length k.table.subterms) wheels (pow_pos MINIMAL_SOLUTIONS)
-      (λ i d l. power (length (get_or wheels i d).basis) MINIMAL_SOLUTIONS (few_each i d l))
+  few_numbers bases are tag wheels asked = product-le (λ (w : Wheel). 2 ^ length w.basis) (2 ^ LISTED_SOLUTIONS) (length k.table.subterms) wheels (pow_pos LISTED_SOLUTIONS)
+      (λ i d l. power (length (get_or wheels i d).basis) LISTED_SOLUTIONS (few_each i d l))
       (let m = few_sums in let n = asked.as_many in omega (arith, m, n))
     where
       power : (i j : ℕ) → i ≤ j → 2 ^ i ≤ 2 ^ j
       power i j l = pow-le-pow_right two l
 
-      few_each : (i : ℕ) (d : Wheel) → i < length wheels → length (get_or wheels i d).basis ≤ MINIMAL_SOLUTIONS
+      few_each : (i : ℕ) (d : Wheel) → i < length wheels → length (get_or wheels i d).basis ≤ LISTED_SOLUTIONS
       few_each i d l = elim (slice_get_cases r.sums i).1 [
-        | inl e ↦ subst (λ b. length b ≤ MINIMAL_SOLUTIONS) (sym (asked.each i e.0 (get_or wheels i d) e.2 (slice_get-get_or wheels i d l)).over) (are.each i e.0 e.2).few
+        | inl e ↦ subst (λ b. length b ≤ LISTED_SOLUTIONS) (sym (asked.each i e.0 (get_or wheels i d) e.2 (slice_get-get_or wheels i d l)).over) (are.each i e.0 e.2).few
         | inr n ↦ let m = asked.as_many in let o = n.0 in absurd (omega (arith, l, m, o))
       ]
 

@@ -5,7 +5,8 @@ use Rattle.std.proofs.lemmas.List.{length-map, length-append, get_or_default}
 use Rattle.std.proofs.lemmas.List.Elements.{All-contains, Contains-append_left, Contains-append_right}
 use Rattle.fvn_base.proofs.Membership.{filter_contains, contains_map, map_contains}
 use Rattle.fvn_base.proofs.Pigeonhole.{length-le_within, length-le_numbered}
-use Rattle.fvn_base.specs.declared.limits.TheConstants.{MINIMAL_SOLUTIONS, FIRST_FRESH}
+use Rattle.fvn_base.specs.declared.limits.TheConstants.{FIRST_FRESH}
+use Rattle.fvn_acunify.specs.declared.limits.TheConstants.{LISTED_SOLUTIONS}
 use Rattle.fvn_terms.specs.declared.plain.OpId.{OpId}
 use Rattle.fvn_terms.specs.Term.{Term, app}
 use Rattle.fvn_forms.proofs.Sums.{same_op_is, same_op_itself}
@@ -97,7 +98,7 @@ module _ (k : Combining) (is : IsCombining k) (small : TablesAreSmall) where
                 (subst (λ i. Contains right (term_at t.nodes i)) a.4 (contains_map (λ (p : OpId × ℕ). term_at t.nodes p.1) t.units a.1 (a.0, a.2, a.3)))
           ])
 
-  pub room : (s : State) (r : Reading) → IsReading k.declarations t (class_of s) r → length t.nodes + MINIMAL_SOLUTIONS * length r.sums ≤ FIRST_FRESH
+  pub room : (s : State) (r : Reading) → IsReading k.declarations t (class_of s) r → length t.nodes + LISTED_SOLUTIONS * length r.sums ≤ FIRST_FRESH
   room s r reading =
       let a = few_subterms in
       let b = few_units in

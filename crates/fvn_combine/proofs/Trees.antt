@@ -8,7 +8,7 @@ use Rattle.fvn_terms.specs.Substitution.{Substitution}
 use Rattle.fvn_flat.specs.Solving.{problem_of}
 use Rattle.fvn_combine_nodes.specs.Laws.{UnifiersPartition}
 use Rattle.fvn_combine_nodes.specs.States.{Admits, IsClosed}
-use Rattle.fvn_combine_nodes.specs.Trees.{AreClosed, IsAsked, IsTakenOn, weight}
+use Rattle.fvn_combine_tree.specs.Trees.{AreClosed, IsAsked, IsTakenOn, weight}
 use Rattle.fvn_combine_nodes.specs.Unifiers.{kernel}
 use Rattle.fvn_combine_nodes.specs.declared.state.State.{State}
 use Rattle.fvn_combine.specs.Tasks.{Combining, IsCombining, IsWanted}

@@ -5,7 +5,7 @@ use Rattle.fvn_terms.specs.Substitution.{Substitution}
 use Rattle.fvn_lindio.specs.declared.system.System.{System}
 use Rattle.fvn_flat.specs.Solving.{IsBasisCause, IsRefused, IsTooLarge}
 use Rattle.fvn_combine_nodes.specs.States.{Admits, class_of}
-use Rattle.fvn_combine_nodes.specs.Trees.{AreClosed, AreInOrder}
+use Rattle.fvn_combine_tree.specs.Trees.{AreClosed, AreInOrder}
 use Rattle.fvn_combine_nodes.specs.Unifiers.{kernel}
 use Rattle.fvn_combine_nodes.specs.declared.state.State.{State}
 use Rattle.fvn_combine_systems.specs.NodeSystems.{IsNodeSystem}

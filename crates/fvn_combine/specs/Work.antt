@@ -1,7 +1,7 @@
 -- How much is left to do: a number that falls with each unifier that is given.
 use Rattle.std.specs.Prelude.{ℕ, ◌+◌, ◌*◌, ◌^◌, List, length, Option, Some, None}
-use Rattle.fvn_base.specs.declared.limits.TheConstants.{MINIMAL_SOLUTIONS}
-use Rattle.fvn_combine_nodes.specs.Trees.{weight}
+use Rattle.fvn_acunify.specs.declared.limits.TheConstants.{LISTED_SOLUTIONS}
+use Rattle.fvn_combine_tree.specs.Trees.{weight}
 use Rattle.fvn_combine_nodes.specs.declared.state.State.{State}
 use Rattle.fvn_acunify_product.specs.Tags.{tags_left}
 use Rattle.fvn_acunify_product.specs.Wheels.{choices_left}
@@ -17,7 +17,7 @@ most_tags k = (length k.table.subterms + 1) ^ length k.table.nodes
 
 -- the most lists of numbers under tags: each sum operator, which heads a subterm, has few minimal solutions
 unfoldable pub most_numbers : Combining → ℕ
-most_numbers k = (2 ^ MINIMAL_SOLUTIONS) ^ length k.table.subterms
+most_numbers k = (2 ^ LISTED_SOLUTIONS) ^ length k.table.subterms
 
 -- how many lists of numbers are left under the current tags, at most
 abbrev pub numbers_left : Option Turning → ℕ

@@ -16,21 +16,24 @@ use crate::ending::{CombineEnd, Ended, told};
 use crate::opened::Leaf;
 use crate::stepping::{Found, next_unifier};
 use crate::task::Task;
-use fvn_combine_nodes::{Tree, node_partitions_are_partitions, unifiers_partition};
+use fvn_combine_candidates::SolvedSystems;
+use fvn_combine_nodes::{node_partitions_are_partitions, unifiers_partition};
 use fvn_combine_systems::node_systems_are_sum_systems;
+use fvn_combine_tree::Tree;
 use fvn_flat::{Pairs, Subst};
 use fvn_signature::Signature;
 use fvn_terms::NoMemory;
 use std::alloc::Global;
 use std::marker::Model;
 
-/// A search: what is asked, the decision tree, the leaf that is open, and why it has ended.
+/// A search: what is asked, the decision tree, the leaf that is open, why it has ended, and systems that were solved.
 #[derive(Drop)]
 pub(crate) struct Parts<'a> {
     task: Task<'a>,
     tree: Tree,
     leaf: Option<Leaf>,
     ended: Option<Ended>,
+    solved: SolvedSystems,
 }
 
 /// All unifiers of a problem on kinds, one after another; every variable is read with its kind.
@@ -64,6 +67,7 @@ fn next_of_parts(
     tree: &mut Tree,
     leaf: &mut Option<Leaf>,
     ended: &mut Option<Ended>,
+    solved: &mut SolvedSystems,
 ) -> Result<Option<Subst>, CombineEnd>
     requires search { IsSearch (search_by task.now tree.old leaf.old ended.old) }
     requires running { ended.old ≡ None }
@@ -77,7 +81,7 @@ fn next_of_parts(
     node_partitions_are_partitions();
     node_systems_are_sum_systems();
     unifiers_partition();
-    match next_unifier(task, tree, leaf)? {
+    match next_unifier(task, tree, leaf, solved)? {
         Found::Nothing => Ok(None),
         Found::Ends(cause) => {
             let end = told(task.alloc, &cause)?;
@@ -103,6 +107,7 @@ fn next_of(parts: &mut Parts) -> Result<Option<Subst>, CombineEnd>
         &mut parts.tree,
         &mut parts.leaf,
         &mut parts.ended,
+        &mut parts.solved,
     )
 }
 
@@ -178,6 +183,7 @@ impl<'a> Combiner<'a> {
                 tree,
                 leaf: None,
                 ended: None,
+                solved: SolvedSystems::new(alloc),
             },
         })
     }

@@ -1,11 +1,12 @@
 //! What the top of a decision tree asks for.
 ghost use Rattle.std.specs.Prelude.{◌≡◌, ◌<◌, length, IfOk};
-ghost use Rattle.fvn_combine_nodes.specs.Trees.{AreClosed};
+ghost use Rattle.fvn_combine_tree.specs.Trees.{AreClosed};
 ghost use Rattle.fvn_combine_nodes.specs.States.{IsClosed, IsOpen, class_of};
 ghost use Rattle.fvn_combine_leaves.specs.Bases.{AreBases};
 ghost use Rattle.fvn_combine_leaves.specs.Leaves.{IsNearLeaf, IsLeaf};
 ghost use Rattle.fvn_combine_leaves.specs.Readings.{IsReading};
 ghost use Rattle.fvn_combine_choices.specs.Plans.{AreOfOneKind};
+ghost use Rattle.fvn_combine_candidates.specs.Refusals.{IsFirstRefused};
 ghost use Rattle.fvn_combine_inferring.specs.Inferred.{TellHeads};
 ghost use Rattle.fvn_combine.specs.inner.Found.{IsLooked, IsLookedAt};
 
@@ -14,13 +15,18 @@ use crate::opened::{Opened, open};
 use crate::task::Task;
 use fvn_base::Seq;
 use fvn_combine_bounds::sorted_leaves_cover;
-use fvn_combine_candidates::{OpenFault, bases, bases_make_systems, refusals_are_causes};
+use fvn_combine_candidates::{
+    OpenFault, SolvedSystems, bases, bases_from_last, bases_make_systems, refusals_are_causes,
+};
 use fvn_combine_choices::classes_have_one_kind;
 use fvn_combine_complete::{readings_tell, tables_have_sums};
 use fvn_combine_inferring::{Inferred, Known, differ, infer, known_of, sorted_unifiers_go_with};
-use fvn_combine_leaves::{Reading, first_question, question_on_all, question_on_touched, read};
-use fvn_combine_nodes::{State, Tree};
+use fvn_combine_leaves::Reading;
+use fvn_combine_nodes::State;
+use fvn_combine_questions::{first_question, question_on_all, question_on_touched};
+use fvn_combine_reading::read;
 use fvn_combine_systems::{tables_are_small, tables_hold_arguments};
+use fvn_combine_tree::Tree;
 use fvn_lindio::{Solution, System};
 use fvn_terms::{NoMemory, OpId};
 
@@ -89,12 +95,80 @@ fn asked(task: &Task, state: &State, known: &Known, i: usize, j: usize) -> Looke
     Looked::Open(i, j)
 }
 
+// What is asked for by a state that is nearly a leaf, where minimal solutions are known.
+fn look_at_bases(
+    task: &Task,
+    state: &State,
+    reading: Reading,
+    known: Known,
+    bases: Vec<Seq<Solution>>,
+) -> Result<Looked, NoMemory>
+    requires near { IsNearLeaf task.now.declarations task.now.table state.now }
+    requires kinds { AreOfOneKind task.now.declarations task.now.table (class_of state.now) }
+    requires reading { IsReading task.now.declarations task.now.table (class_of state.now) reading }
+    requires heads { TellHeads task.now.declarations task.now.table state.now known.sorted
+        known.heads.items }
+    requires sorted { known.sorted ≡ task.now.sorted }
+    requires bases { AreBases reading.sums bases.items }
+    ensures { IfOk result (IsLookedAt task.now state.now) }
+{
+    task.recall();
+    match question_on_touched(task.sig, &task.table, state, &reading, bases.as_slice()) {
+        Some(pair) => Ok(asked(task, state, &known, pair.0, pair.1)),
+        None => {
+            let looked = look_at_leaf(task, state, reading, known, bases)?;
+            Ok(looked)
+        }
+    }
+}
+
+// What is asked for by a state that is nearly a leaf, where f's system is refused: its minimal solutions may still be
+// known.
+fn look_at_refused(
+    task: &Task,
+    state: &State,
+    reading: Reading,
+    known: Known,
+    f: OpId,
+    system: System,
+) -> Result<Looked, NoMemory>
+    requires near { IsNearLeaf task.now.declarations task.now.table state.now }
+    requires kinds { AreOfOneKind task.now.declarations task.now.table (class_of state.now) }
+    requires reading { IsReading task.now.declarations task.now.table (class_of state.now) reading }
+    requires heads { TellHeads task.now.declarations task.now.table state.now known.sorted
+        known.heads.items }
+    requires sorted { known.sorted ≡ task.now.sorted }
+    requires refused { IsFirstRefused reading.sums f system }
+    ensures { IfOk result (IsLookedAt task.now state.now) }
+{
+    task.recall();
+    refusals_are_causes();
+    match bases_from_last(
+        task.alloc,
+        task.sig,
+        &task.table,
+        state,
+        &reading,
+        task.sorted,
+    )? {
+        Some(bases) => {
+            let looked = look_at_bases(task, state, reading, known, bases)?;
+            Ok(looked)
+        }
+        None => match question_on_all(task.sig, &task.table, state, &reading) {
+            Some(pair) => Ok(asked(task, state, &known, pair.0, pair.1)),
+            None => Ok(Looked::Refused(f, system)),
+        },
+    }
+}
+
 // What is asked for by a state that is nearly a leaf.
 fn look_at_near_leaf(
     task: &Task,
     state: &State,
     reading: Reading,
     known: Known,
+    solved: &mut SolvedSystems,
 ) -> Result<Looked, NoMemory>
     requires near { IsNearLeaf task.now.declarations task.now.table state.now }
     requires reading { IsReading task.now.declarations task.now.table (class_of state.now) reading }
@@ -104,27 +178,19 @@ fn look_at_near_leaf(
     ensures { IfOk result (IsLookedAt task.now state.now) }
 {
     task.recall();
-    refusals_are_causes();
     classes_have_one_kind();
     if !are_of_one_kind(task, state) {
         return Ok(Looked::Passed);
     }
-    match bases(task.alloc, task.sig, &task.table, state, &reading) {
+    match bases(task.alloc, task.sig, &task.table, state, &reading, solved) {
         Err(OpenFault::NoMemory) => Err(NoMemory),
         Err(OpenFault::Basis(f, system)) => {
-            match question_on_all(task.sig, &task.table, state, &reading) {
-                Some(pair) => Ok(asked(task, state, &known, pair.0, pair.1)),
-                None => Ok(Looked::Refused(f, system)),
-            }
+            let looked = look_at_refused(task, state, reading, known, f, system)?;
+            Ok(looked)
         }
         Ok(bases) => {
-            match question_on_touched(task.sig, &task.table, state, &reading, bases.as_slice()) {
-                Some(pair) => Ok(asked(task, state, &known, pair.0, pair.1)),
-                None => {
-                    let looked = look_at_leaf(task, state, reading, known, bases)?;
-                    Ok(looked)
-                }
-            }
+            let looked = look_at_bases(task, state, reading, known, bases)?;
+            Ok(looked)
         }
     }
 }
@@ -135,6 +201,7 @@ fn look_further(
     state: &State,
     reading: Reading,
     known: Known,
+    solved: &mut SolvedSystems,
 ) -> Result<Looked, NoMemory>
     requires closed { IsClosed task.now.declarations task.now.table state.now }
     requires reading { IsReading task.now.declarations task.now.table (class_of state.now) reading }
@@ -146,14 +213,14 @@ fn look_further(
     match first_question(task.sig, &task.table, state, &reading) {
         Some((i, j)) => Ok(asked(task, state, &known, i, j)),
         None => {
-            let looked = look_at_near_leaf(task, state, reading, known)?;
+            let looked = look_at_near_leaf(task, state, reading, known, solved)?;
             Ok(looked)
         }
     }
 }
 
 // What is asked for by a state: first what all unifiers say of it.
-fn look_at(task: &Task, state: &State) -> Result<Looked, NoMemory>
+fn look_at(task: &Task, state: &State, solved: &mut SolvedSystems) -> Result<Looked, NoMemory>
     requires { IsClosed task.now.declarations task.now.table state.now }
     ensures { IfOk result (IsLookedAt task.now state.now) }
 {
@@ -176,21 +243,21 @@ fn look_at(task: &Task, state: &State) -> Result<Looked, NoMemory>
         Inferred::Together(i, j) => Ok(Looked::Together(i, j)),
         Inferred::Question(i, j) => Ok(Looked::Open(i, j)),
         Inferred::Nothing => {
-            let looked = look_further(task, state, reading, known)?;
+            let looked = look_further(task, state, reading, known, solved)?;
             Ok(looked)
         }
     }
 }
 
 // What the last state asks for.
-pub(crate) fn look(task: &Task, tree: &Tree) -> Result<Looked, NoMemory>
+pub(crate) fn look(task: &Task, tree: &Tree, solved: &mut SolvedSystems) -> Result<Looked, NoMemory>
     requires { AreClosed task.now.declarations task.now.table tree.now }
     ensures { IfOk result (IsLooked task.now tree.now) }
 {
     match tree.top() {
         None => Ok(Looked::Over),
         Some(state) => {
-            let looked = look_at(task, state)?;
+            let looked = look_at(task, state, solved)?;
             Ok(looked)
         }
     }

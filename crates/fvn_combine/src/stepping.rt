@@ -1,6 +1,6 @@
 //! One step of the search after another.
 ghost use Rattle.std.specs.Prelude.{◌≡◌, IfOk, OnErr};
-ghost use Rattle.fvn_combine_nodes.specs.Trees.{AreClosed, AreInOrder};
+ghost use Rattle.fvn_combine_tree.specs.Trees.{AreClosed, AreInOrder};
 ghost use Rattle.fvn_combine.specs.Search.{IsOpenedAt};
 ghost use Rattle.fvn_combine.specs.inner.Found.{IsStep, AreFound, IsLessLeft};
 ghost use Rattle.fvn_combine.specs.Work.{left_by};
@@ -10,8 +10,10 @@ use crate::looking::{Looked, look};
 use crate::opened::Leaf;
 use crate::task::Task;
 use crate::walking::next_in;
+use fvn_combine_candidates::SolvedSystems;
 use fvn_combine_drawing::Drawn;
-use fvn_combine_nodes::{Tree, unifiers_partition};
+use fvn_combine_nodes::unifiers_partition;
+use fvn_combine_tree::Tree;
 use fvn_flat::Subst;
 use fvn_terms::NoMemory;
 
@@ -38,7 +40,12 @@ pub(crate) enum Found {
 }
 
 // Looks at the last state: asks its question, takes on a fact, passes it over, opens it, or says why the search ends.
-fn take_step(task: &Task, tree: &mut Tree, leaf: &mut Option<Leaf>) -> Result<Step, NoMemory>
+fn take_step(
+    task: &Task,
+    tree: &mut Tree,
+    leaf: &mut Option<Leaf>,
+    solved: &mut SolvedSystems,
+) -> Result<Step, NoMemory>
     requires closed { AreClosed task.now.declarations task.now.table tree.old }
     requires ordered { AreInOrder tree.old }
     ensures closed { AreClosed task.now.declarations task.now.table tree.new }
@@ -48,7 +55,7 @@ fn take_step(task: &Task, tree: &mut Tree, leaf: &mut Option<Leaf>) -> Result<St
 {
     task.recall();
     unifiers_partition();
-    match look(task, tree)? {
+    match look(task, tree, solved)? {
         Looked::Over => Ok(Step::Over),
         Looked::Open(i, j) => {
             tree.ask(task.alloc, task.sig, &task.table, i, j)?;
@@ -86,6 +93,7 @@ pub(crate) fn next_unifier(
     task: &Task,
     tree: &mut Tree,
     leaf: &mut Option<Leaf>,
+    solved: &mut SolvedSystems,
 ) -> Result<Found, NoMemory>
     requires closed { AreClosed task.now.declarations task.now.table tree.old }
     requires ordered { AreInOrder tree.old }
@@ -103,7 +111,7 @@ pub(crate) fn next_unifier(
             Drawn::TooLarge(list) => return Ok(Found::Ends(Ended::Size(list))),
             Drawn::Unifier(g) => return Ok(Found::Given(g)),
         }
-        match take_step(task, tree, leaf)? {
+        match take_step(task, tree, leaf, solved)? {
             Step::Over => return Ok(Found::Nothing),
             Step::More => {}
             Step::End(ended) => return Ok(Found::Ends(ended)),

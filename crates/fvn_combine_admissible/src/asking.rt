@@ -100,8 +100,8 @@ pub(crate) fn marks_of(
     requires sums { IsWholeSums n sums.now }
     ensures { IfOk result (λ v. AreMarksOf sig.now reading.now tags.now sums.now v.items) }
 {
-    let mut marks = Vec::new(alloc);
     let columns = sums.columns.as_slice();
+    let mut marks = Vec::with_capacity(alloc, columns.len())?;
     for j in 0..columns.len() {
         let required = is_required(sig, reading, n, tags, sums, columns[j]);
         marks.push(!required)?;

@@ -33,7 +33,7 @@ fn add_if(
 pub fn taken(alloc: Global, basis: &[Solution], number: u32) -> Result<Vec<Solution>, NoMemory>
     ensures { IfOk result (λ all. vectors_of all.items ≡ chosen number (vectors_of basis.now)) }
 {
-    let mut solutions = Vec::new(alloc);
+    let mut solutions = Vec::with_capacity(alloc, basis.len())?;
     let mut bits = number;
     for solution in basis {
         add_if(alloc, bits, &mut solutions, solution)?;

@@ -12,3 +12,4 @@ mod Ordered
 mod Setting
 mod Few
 mod Absorbing
+mod Turned

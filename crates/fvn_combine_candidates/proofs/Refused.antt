@@ -27,7 +27,7 @@ use Rattle.fvn_combine_leaves.specs.declared.reading.Reading.{Reading}
 use Rattle.fvn_combine_candidates.specs.declared.opening.OpenFault.{OpenFault}
 use Rattle.fvn_combine_candidates.specs.declared.opening.OpenFault.TheVariants.{Basis, NoMemory as OutOfMemory}
 use Rattle.fvn_combine_candidates.specs.Refusals.{IsFirstRefused, IsOpenFault}
-use Rattle.fvn_combine_candidates.specs.inner.Walking.{AreBasesBelow, IsFaultOf}
+use Rattle.fvn_combine_candidates.specs.inner.Walking.{IsKeptBasis, AreBasesBelow, IsFaultOf}
 use Rattle.fvn_combine_candidates.proofs.Entries.{read_at, listed_at}
 use Rattle.fvn_combine_candidates.proofs.Systems.{operator_at, sums_at}
 
@@ -66,7 +66,7 @@ kept_system s result basis is many wide (k, inr h) =
     cc
 
 -- the first operator without minimal solutions is the fault
-pub fault_at : (sums : List Sums) (n : ℕ) (bases : List (List Solution)) (e : Sums) → n < length sums → e ≡ get_or sums n e → AreBasesBelow sums n bases → (fault : OpenFault) → IsFaultOf e fault → IsOpenFault sums fault
+pub fault_at : (sums : List Sums) (n : ℕ) (bases : List (List Solution)) (e : Sums) → n < length sums → e ≡ get_or sums n e → AreBasesBelow IsKeptBasis sums n bases → (fault : OpenFault) → IsFaultOf e fault → IsOpenFault sums fault
 fault_at sums n bases e l at h (Basis f system) of = record {
   place = n;
   entry = e;

@@ -4,7 +4,6 @@ use Rattle.std.specs.Prelude.{◌↔◌, AllPairs, slice_get}
 use Rattle.std.proofs.lemmas.List.{get_or-map, length-map, get_or_default}
 use Rattle.std.proofs.lemmas.List.Elements.{All-contains, All-weaker, All-contains_itself}
 use Rattle.std.proofs.lemmas.Option.{slice_get_within, get_or_from_slice_get}
-use Rattle.fvn_base.specs.declared.limits.TheConstants.{MINIMAL_SOLUTIONS}
 use Rattle.fvn_base.specs.Order.{IsBefore}
 use Rattle.fvn_base.proofs.Order.{before_irrefl}
 use Rattle.fvn_base.proofs.Membership.{map_contains, contains_map}
@@ -46,13 +45,6 @@ basis_is bases i basis b l is same = same ∙ is ∙ get_or_default bases i b []
 
 pub basis_at : (sums : List Sums) (bases : List (List Solution)) → AreBases sums bases → (i : ℕ) (e : Sums) (basis : List Solution) → i < length sums → e ≡ get_or sums i e → basis ≡ slice_index_or bases i [] → IsBasis e.system basis
 basis_at sums bases are i e basis l is same = subst (IsBasis e.system) (sym same) (are.each i e (read_at sums i e l is))
-
--- they are few
-pub few_bases : (sums : List Sums) (bases : List (List Solution)) → AreBases sums bases → All (λ basis. length basis ≤ MINIMAL_SOLUTIONS) bases
-few_bases sums bases are k d l =
-    let as_many = are.as_many in
-    let e = entry_at sums k (omega (arith, l, as_many)) in
-    subst (λ (b : List Solution). length b ≤ MINIMAL_SOLUTIONS) (get_or_default bases k [] d l) (are.each k e.0 e.1).few
 
 module _ (d : Declarations) (t : NodeTable) (class : ℕ → ℕ) (r : Reading) (reading : IsReading d t class r) where
   pub placed : (f : OpId) → IsSumOperator d t f → IsPlaced r f

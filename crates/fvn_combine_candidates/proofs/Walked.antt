@@ -2,15 +2,18 @@
 use Rattle.std.proofs.Common.{◌≡◌, ◌≢◌, ◌⊎◌, ℕ, ◌+◌, ◌<◌, ◌≤◌, Bool, true, List, [], ◌∷◌, ◌++◌, length, map, get_or, slice_index, slice_index_or, sym, ap, ◌∙◌, subst, inl, inr, arith, All, Contains, Option, Some}
 use Rattle.std.specs.Prelude.{◌↔◌, AllPairs, slice_get}
 use Rattle.std.proofs.lemmas.Bool.{cases_lt}
-use Rattle.std.proofs.lemmas.List.{length_push, get_or_append_left, get_or_push, map_push}
+use Rattle.std.proofs.lemmas.List.{length_push, get_or_append_left, get_or_push, map_push, get_or_default}
 use Rattle.std.proofs.lemmas.List.Elements.{All-push, All-weaker, Contains-append_left, Contains-push, Contains-push_cases, Contains-get_or}
 use Rattle.std.proofs.lemmas.List.Quantifiers.{all_pairs_push}
 use Rattle.std.proofs.lemmas.Option.{slice_get_within, slice_get-get_or, get_or_from_slice_get}
+use Rattle.fvn_base.specs.declared.limits.TheConstants.{MINIMAL_SOLUTIONS}
 use Rattle.fvn_terms.specs.declared.plain.OpId.{OpId}
 use Rattle.fvn_terms.specs.declared.declarations.Declarations.{Declarations}
+use Rattle.fvn_lindio.specs.declared.system.System.{System}
 use Rattle.fvn_lindio.specs.declared.system.Solution.{Solution}
 use Rattle.fvn_lindio.specs.Systems.{vectors_of}
 use Rattle.fvn_acunify.specs.ValidChoice.{chosen}
+use Rattle.fvn_flat.specs.Solving.{IsRefused}
 use Rattle.fvn_combine_nodes.specs.Table.{NodeTable, IsWellMade}
 use Rattle.fvn_combine_nodes.specs.States.{IsClosed, class_of}
 use Rattle.fvn_combine_nodes.specs.declared.state.State.{State}
@@ -28,30 +31,50 @@ use Rattle.fvn_combine_candidates.specs.declared.sharing.SharedClass.{SharedClas
 use Rattle.fvn_combine_leaves.specs.Bases.{IsBasis, AreBases}
 use Rattle.fvn_combine_candidates.specs.Sharing.{classes_of, MayBeSum, IsSharedClass, AreSharedClasses}
 use Rattle.fvn_combine_candidates.specs.Turning.{IsWheel, AreWheels, HaveBounds}
-use Rattle.fvn_combine_candidates.specs.inner.Walking.{AreBasesBelow, IsBoundedWheel, AreWheelsBelow, IsUserBelow, AreUsersBelow, AreSharedBelow}
-use Rattle.fvn_combine_candidates.proofs.Entries.{read_at, one_entry}
+use Rattle.fvn_combine_candidates.specs.inner.Walking.{IsKeptBasis, AreBasesBelow, AreKeptBases, IsBoundedWheel, AreWheelsBelow, IsUserBelow, AreUsersBelow, AreSharedBelow}
+use Rattle.fvn_combine_candidates.proofs.Entries.{entry_at, read_at, one_entry}
 use Rattle.fvn_combine_candidates.proofs.Systems.{user_placed}
 
 -- one more operator's minimal solutions
-pub more_bases : (sums : List Sums) (n : ℕ) (bases : List (List Solution)) (e : Sums) (b : List Solution) → n < length sums → e ≡ get_or sums n e → AreBasesBelow sums n bases → IsBasis e.system b → AreBasesBelow sums (n + 1) (bases ++ b ∷ [])
-more_bases sums n bases e b l at h here = record {
+pub more_bases : (P : System → List Solution → Type 0) (sums : List Sums) (n : ℕ) (bases : List (List Solution)) (e : Sums) (b : List Solution) → n < length sums → e ≡ get_or sums n e → AreBasesBelow P sums n bases → P e.system b → AreBasesBelow P sums (n + 1) (bases ++ b ∷ [])
+more_bases P sums n bases e b l at h here = record {
   as_many = length_push bases b ∙ ap (λ k. k + 1) h.as_many;
   each = λ i x m is. elim (cases_lt i n) [
     | inl below ↦
         let as_many = h.as_many in
-        subst (IsBasis x.system) (sym (get_or_append_left bases (b ∷ []) [] i (omega (arith, below, as_many)))) (h.each i x below is)
+        subst (P x.system) (sym (get_or_append_left bases (b ∷ []) [] i (omega (arith, below, as_many)))) (h.each i x below is)
     | inr above ↦
         let same : i ≡ n = omega (arith, m, above) in
         let one : e ≡ x = one_entry sums n e x (read_at sums n e l at) (subst (λ k. slice_get sums k ≡ Some x) same is) in
-        subst (IsBasis x.system) (sym (get_or_push bases b [] i (h.as_many ∙ sym same))) (subst (λ (z : Sums). IsBasis z.system b) one here)
+        subst (P x.system) (sym (get_or_push bases b [] i (h.as_many ∙ sym same))) (subst (λ (z : Sums). P z.system b) one here)
   ];
 }
 
-pub all_bases : (sums : List Sums) (n : ℕ) (bases : List (List Solution)) → length sums ≤ n → n ≤ length sums → AreBasesBelow sums n bases → AreBases sums bases
+pub all_bases : (sums : List Sums) (n : ℕ) (bases : List (List Solution)) → length sums ≤ n → n ≤ length sums → AreBasesBelow IsBasis sums n bases → AreBases sums bases
 all_bases sums n bases l m h = record {
   as_many = let k = h.as_many in omega (arith, l, m, k);
   each = λ i e is. h.each i e (let k = slice_get_within sums i e is in omega (arith, k, l)) is;
 }
+
+-- the same of operators whose systems are not refused
+pub all_kept : (sums : List Sums) (n : ℕ) (bases : List (List Solution)) → length sums ≤ n → n ≤ length sums → AreBasesBelow IsKeptBasis sums n bases → AreKeptBases sums bases
+all_kept sums n bases l m h = subst (λ k. AreBasesBelow IsKeptBasis sums k bases) (omega (arith, l, m)) h
+
+pub kept_are_bases : (sums : List Sums) (bases : List (List Solution)) → AreKeptBases sums bases → AreBases sums bases
+kept_are_bases sums bases h = record {
+  as_many = h.as_many;
+  each = λ i e is. (h.each i e (slice_get_within sums i e is) is).is_basis;
+}
+
+pub kept_are_few : (sums : List Sums) (bases : List (List Solution)) → AreKeptBases sums bases → All (λ basis. length basis ≤ MINIMAL_SOLUTIONS) bases
+kept_are_few sums bases h k d l =
+    let as_many = h.as_many in
+    let m : k < length sums = omega (arith, l, as_many) in
+    let e = entry_at sums k m in
+    subst (λ (b : List Solution). length b ≤ MINIMAL_SOLUTIONS) (get_or_default bases k [] d l) (h.each k e.0 m e.1).few
+
+pub none_refused : (sums : List Sums) (bases : List (List Solution)) → AreKeptBases sums bases → All (λ e. IsRefused e.system → ⊥) sums
+none_refused sums bases h k d l = (h.each k (get_or sums k d) l (slice_get-get_or sums k d l)).kept
 
 module _ (d : Declarations) (t : NodeTable) (class : ℕ → ℕ) where
   module _ (tag : ℕ → Option OpId) (sorted : Bool) (sums : List Sums) (bases : List (List Solution)) where

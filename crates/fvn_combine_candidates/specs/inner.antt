@@ -1,2 +1,3 @@
 -- What mirrors the code.
 pub mod Walking
+pub mod Solved

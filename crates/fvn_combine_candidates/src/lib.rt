@@ -2,14 +2,18 @@
 #![tactic(auto)]
 
 mod aliases;
+mod last_first;
 mod laws;
 mod neutral;
+mod once;
 mod opening;
 mod sharing;
+mod solving;
 mod tagging;
 mod turning;
 
 pub use aliases::leave_no_alias;
+pub use last_first::bases_from_last;
 pub use laws::{
     bases_make_systems, covering_choices_are_listed, listed_choices_are_possible, lists_cover,
     refusals_are_causes, sorted_choices_are_within, sum_operators_are_few,
@@ -17,5 +21,6 @@ pub use laws::{
 pub use neutral::is_neutral;
 pub use opening::{OpenFault, bases};
 pub use sharing::{SharedClass, shared};
+pub use solving::SolvedSystems;
 pub use tagging::{option_counts, tags_of};
 pub use turning::wheels;

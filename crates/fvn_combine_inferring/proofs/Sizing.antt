@@ -1,7 +1,8 @@
 -- Sizes of values by their summands.
-use Rattle.std.proofs.Common.{◌≡◌, ℕ, zero, suc, ◌+◌, ◌<◌, ◌≤◌, true, false, List, [], ◌∷◌, ◌++◌, length, refl, sym, ap, ◌∙◌, subst, inl, inr, arith}
-use Rattle.std.specs.Prelude.{Bool, ◌||◌}
-use Rattle.std.proofs.lemmas.Bool.{cases_Bool}
+use Rattle.std.proofs.Common.{◌≡◌, ◌⊎◌, ℕ, zero, suc, ◌+◌, ◌<◌, ◌≤◌, true, false, List, [], ◌∷◌, ◌++◌, length, get_or, set, replicate, refl, sym, ap, ◌∙◌, subst, inl, inr, arith}
+use Rattle.std.specs.Prelude.{Bool}
+use Rattle.std.proofs.lemmas.Bool.{cases_Bool, cases_eq, cases_lt}
+use Rattle.std.proofs.lemmas.List.{get_or-set_same, get_or-set_other, get_or-replicate, get_or_past, length-replicate}
 use Rattle.std.proofs.lemmas.List.Elements.{All-push}
 use Rattle.fvn_terms.specs.declared.plain.OpId.{OpId}
 use Rattle.fvn_terms.specs.declared.declarations.Declarations.{Declarations}
@@ -25,7 +26,7 @@ use Rattle.fvn_combine_complete.specs.Obeying.{GoWith}
 use Rattle.fvn_combine_inferring.specs.Inferred.{HasNoValues, HaveTwoValues}
 use Rattle.fvn_combine_inferring.specs.Rows.{summands, times, many, HasFewSummands}
 use Rattle.fvn_combine_inferring.specs.inner.Bounds.{HaveSummands}
-use Rattle.fvn_combine_inferring.specs.inner.Sizes.{IsLess, IsSaid, AreSaid, size, AreInside, IsNoSummand}
+use Rattle.fvn_combine_inferring.specs.inner.Sizes.{IsLess, IsSaid, AreSaid, IsNoted, AreNoted, followed_mark, size, AreInside, IsNoSummand}
 use Rattle.fvn_combine_inferring.specs.inner.Splits.{IsSplit}
 use Rattle.fvn_combine_inferring.specs.declared.sizes.Inside.{Inside}
 use Rattle.fvn_combine_inferring.proofs.Values.{split_adds}
@@ -164,13 +165,6 @@ module _ (d : Declarations) (t : NodeTable) (made : IsWellMade t) (has : HasSums
           let e = ap (size s values) is in
           omega (arith, n, e)
 
--- what follows of two pairs
-pub less_chain : (a b : Bool) (k l m : ℕ) → IsLess a k l → IsLess b l m → IsLess (a || b) k m
-less_chain false false k l m h g = omega (arith, h, g)
-less_chain false true k l m h g = omega (arith, h, g)
-less_chain true false k l m h g = omega (arith, h, g)
-less_chain true true k l m h g = omega (arith, h, g)
-
 module _ (d : Declarations) (t : NodeTable) (s : State) (sorted : Bool) (f : OpId) where
   -- the value of a class is no summand of one that has fewer symbols
   pub larger_out : (list : List Inside) → AreInside d t s sorted list → (k l : ℕ) → ((w : ℕ → ℕ) → AreSaid w list → w l < w k) → IsNoSummand d t s sorted f k l
@@ -191,15 +185,37 @@ module _ (d : Declarations) (t : NodeTable) (s : State) (sorted : Bool) (f : OpI
 pub circular_out : (d : Declarations) (t : NodeTable) (s : State) (sorted : Bool) (list : List Inside) → AreInside d t s sorted list → ((w : ℕ → ℕ) → AreSaid w list → ⊥) → HasNoValues d t s sorted
 circular_out d t s sorted list inside none values go = none (size s values) (inside values go)
 
--- two pairs of which the second begins where the first ends make one
-pub chained : (w : ℕ → ℕ) (first second : Inside) (proper : Bool) → second.small ≡ first.large → proper ≡ (first.proper || second.proper) → IsSaid w first → IsSaid w second
-    → IsSaid w (record { small = first.small; large = second.large; proper = proper })
-chained w first second proper meets is a b =
-    subst (λ p. IsLess p (w first.small) (w second.large)) (sym is)
-    (less_chain first.proper second.proper (w first.small) (w first.large) (w second.large) a (subst (λ k. IsLess second.proper (w k) (w second.large)) meets b))
-
 -- a proper pair says so of its classes
 pub said : (w : ℕ → ℕ) (pair : Inside) (k l : ℕ) → pair.proper ≡ true → pair.small ≡ k → pair.large ≡ l → IsSaid w pair → w k < w l
 said w pair k l proper small large h =
     let a = subst (λ p. IsLess p (w pair.small) (w pair.large)) proper h in
     subst (λ n. w n < w l) small (subst (λ n. w pair.small < w n) large a)
+
+-- nothing is noted at first
+pub none_noted : (w : ℕ → ℕ) (k n : ℕ) → AreNoted w k (replicate n 0)
+none_noted w k n x = subst (IsNoted w k x) (sym nothing) tt
+  where
+    nothing : get_or (replicate n zero) x zero ≡ zero
+    nothing = elim (cases_lt x n) [
+      | inl l ↦ get_or-replicate n x zero zero l
+      | inr g ↦ get_or_past (replicate n zero) x zero (let e = length-replicate n zero in omega (arith, g, e))
+    ]
+
+-- one class more is noted
+pub note_more : (w : ℕ → ℕ) (k : ℕ) (marks new : List ℕ) (x m : ℕ) → (new ≡ marks) ⊎ ((x < length marks) × (new ≡ set marks x m)) → IsNoted w k x m → AreNoted w k marks → AreNoted w k new
+note_more w k marks new x m (inl e) is h = subst (AreNoted w k) (sym e) h
+note_more w k marks new x m (inr e) is h = subst (AreNoted w k) (sym e.1) (λ y. elim (cases_eq y x) [
+  | inl same ↦ subst (λ z. IsNoted w k z (get_or (set marks x m) z 0)) (sym same) (subst (IsNoted w k x) (sym (get_or-set_same marks x m 0 e.0)) is)
+  | inr other ↦ subst (IsNoted w k y) (sym (get_or-set_other marks x y m 0 other)) (h y)
+])
+
+-- what follows of what is noted, by a pair that holds
+pub mark_followed : (w : ℕ → ℕ) (k : ℕ) (e : Inside) (m : ℕ) → (m ≡ 0 → ⊥) → IsSaid w e → IsNoted w k e.small m → IsNoted w k e.large (followed_mark m e.proper)
+mark_followed w k e m some said noted = at m e.proper some said noted
+  where
+    at : (m : ℕ) (b : Bool) → (m ≡ 0 → ⊥) → IsLess b (w e.small) (w e.large) → IsNoted w k e.small m → IsNoted w k e.large (followed_mark m b)
+    at zero b some said noted = absurd (some refl)
+    at (suc zero) true some said noted = omega (arith, said, noted)
+    at (suc (suc n)) true some said noted = omega (arith, said, noted)
+    at (suc zero) false some said noted = omega (arith, said, noted)
+    at (suc (suc n)) false some said noted = omega (arith, said, noted)

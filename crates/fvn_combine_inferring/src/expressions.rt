@@ -118,7 +118,7 @@ fn note(splits: &mut Vec<Option<(usize, usize)>>, k: usize, split: Option<(usize
 fn unsplit(alloc: Global, count: usize) -> Result<Vec<Option<(usize, usize)>>, NoMemory>
     ensures { IfOk result (λ v. IsUnsplit count v.items) }
 {
-    let mut splits = Vec::new(alloc);
+    let mut splits = Vec::with_capacity(alloc, count)?;
     for _i in 0..count {
         splits.push(None)?;
     }

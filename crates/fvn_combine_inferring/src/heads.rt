@@ -146,6 +146,17 @@ fn note_head(heads: &mut Vec<Option<OpId>>, k: usize, f: OpId)
     heads[k] = Some(f);
 }
 
+// Whether f is noted of class k.
+fn is_noted(heads: &[Option<OpId>], k: usize, f: OpId) -> bool {
+    if k >= heads.len() {
+        return false;
+    }
+    match heads[k] {
+        None => false,
+        Some(g) => g == f,
+    }
+}
+
 // Notes f of the classes of its sums that have two summands for sure.
 fn note_large(
     alloc: Global,
@@ -164,6 +175,9 @@ fn note_large(
 {
     let addition = addition_of(alloc, sig, table, state, known, f)?;
     for i in 0..table.nodes().len() {
+        if is_noted(known.heads.as_slice(), state.class_of(i), f) {
+            continue;
+        }
         if !is_large(alloc, sig, table, state, known, &addition, i)? {
             continue;
         }

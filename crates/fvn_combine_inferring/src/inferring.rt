@@ -13,7 +13,7 @@ use crate::expressions::{Addition, addition_of};
 use crate::heads::Known;
 use crate::rows::row_at;
 use crate::rules::rule;
-use crate::sizes::{Inside, insides, is_circular};
+use crate::sizes::{Inside, has_several, insides, is_circular};
 use fvn_combine_leaves::Reading;
 use fvn_combine_nodes::{State, Table};
 use fvn_signature::Signature;
@@ -142,7 +142,7 @@ pub fn infer(
 {
     table.recall_well_made();
     let pairs = insides(alloc, sig, table, state, reading, known)?;
-    if is_circular(pairs.as_slice()) {
+    if is_circular(pairs.as_slice(), has_several(reading)) {
         return Ok(Inferred::Impossible);
     }
     let mut asked = Inferred::Nothing;

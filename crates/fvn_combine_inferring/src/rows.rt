@@ -88,7 +88,24 @@ pub(crate) fn added(
     }
 }
 
-// The reduced row of node i, where it is a sum.
+// Whether class k is replaced by these two.
+fn is_split(addition: &Addition, k: usize, p: (usize, usize)) -> bool {
+    let splits = addition.splits.as_slice();
+    if k >= splits.len() {
+        return false;
+    }
+    match splits[k] {
+        None => false,
+        Some(q) => {
+            if q.0 != p.0 {
+                return false;
+            }
+            q.1 == p.1
+        }
+    }
+}
+
+// The reduced row of node i, where it is a sum; nothing where its class is replaced by what it adds, so that nothing is left.
 pub(crate) fn row_at(
     alloc: Global,
     sig: &Signature,
@@ -111,6 +128,9 @@ pub(crate) fn row_at(
     match split_at(table, state, addition.operator, i) {
         None => Ok(None),
         Some(p) => {
+            if is_split(addition, state.class_of(i), p) {
+                return Ok(None);
+            }
             let row = reduced(
                 alloc,
                 addition.splits.as_slice(),

@@ -1,12 +1,12 @@
 //! Classes whose values have fewer symbols than those of others for sure.
-ghost use Rattle.std.specs.Prelude.{◌≡◌, ◌<◌, ◌||◌, ℕ, length, IfOk, OnOk, IsTrue};
+ghost use Rattle.std.specs.Prelude.{◌≡◌, ◌⊎◌, ◌<◌, ◌||◌, ℕ, length, slice_index_or, slice_set, IfOk, OnOk, IsTrue};
 ghost use Rattle.fvn_terms.specs.Signature.{axioms};
 ghost use Rattle.fvn_terms.specs.Equality.{IsAssociative};
 ghost use Rattle.fvn_combine_choices.specs.Tables.{HasSums};
 ghost use Rattle.fvn_combine_leaves.specs.Readings.{IsReading};
 ghost use Rattle.fvn_combine_nodes.specs.States.{IsClosed, class_of};
 ghost use Rattle.fvn_combine_inferring.specs.Inferred.{TellHeads};
-ghost use Rattle.fvn_combine_inferring.specs.inner.Sizes.{IsSaid, AreSaid, AreInside};
+ghost use Rattle.fvn_combine_inferring.specs.inner.Sizes.{IsSaid, AreSaid, AreInside, AreNoted, followed_mark};
 ghost use Rattle.fvn_combine_inferring.specs.inner.Bounds.{HaveSummands};
 
 use crate::expressions::split_at;
@@ -20,6 +20,14 @@ use std::alloc::Global;
 
 // The most pairs of which longer chains are looked for.
 const PAIRS: usize = 48;
+// The most classes of which they are looked for.
+const CLASSES: usize = 64;
+// The rounds in which they are looked for: chains of so many pairs are found.
+const ROUNDS: usize = 4;
+// What is noted of a class: that it has no fewer symbols than the class at which a chain begins.
+const NO_FEWER: u8 = 1;
+// And that it has more.
+const MORE: u8 = 2;
 
 /// Two classes: the value of the first has no more symbols than that of the second, or fewer.
 #[derive(Clone, Copy)]
@@ -113,8 +121,99 @@ fn note_insides(
     Ok(())
 }
 
-// The classes that sums add, which have no more symbols than the sums.
-fn addends(
+// Whether one of both holds.
+fn either(a: bool, b: bool) -> bool
+    ensures { result ≡ (a || b) }
+{
+    if a {
+        return true;
+    }
+    b
+}
+
+// Whether several operators are read: one alone makes no chains.
+pub(crate) fn has_several(reading: &Reading) -> bool {
+    reading.sums.len() > 1
+}
+
+// What is noted of class k; nothing where it is beyond the places.
+fn noted(marks: &[u8], k: usize) -> u8
+    ensures { result ≡ slice_index_or marks.now k 0 }
+{
+    if k >= marks.len() {
+        return 0;
+    }
+    marks[k]
+}
+
+// Notes more of class k, where less was noted; answers whether that was so.
+fn note(marks: &mut [u8], k: usize, mark: u8) -> bool
+    ensures { (marks.new ≡ marks.old)
+        ⊎ ((k < length marks.old) × (marks.new ≡ slice_set marks.old k mark)) }
+{
+    if k >= marks.len() {
+        return false;
+    }
+    if marks[k] >= mark {
+        return false;
+    }
+    marks[k] = mark;
+    true
+}
+
+// What follows of a class that contains one of which this is noted.
+fn followed(mark: u8, proper: bool) -> u8
+    ensures { result ≡ followed_mark mark proper }
+{
+    if proper { MORE } else { mark }
+}
+
+// Notes what follows by one pair; answers whether it was new.
+fn follow(marks: &mut [u8], pair: &Inside) -> bool
+    ensures { (w : ℕ → ℕ) (k : ℕ) → IsSaid w pair.now → AreNoted w k marks.old → AreNoted w k marks.new }
+{
+    let mark = noted(marks, pair.small);
+    if mark == 0 {
+        return false;
+    }
+    note(marks, pair.large, followed(mark, pair.proper))
+}
+
+// Notes what follows by each of the pairs; answers whether anything was new.
+fn follow_all(marks: &mut [u8], pairs: &[Inside]) -> bool
+    ensures { (w : ℕ → ℕ) (k : ℕ) → AreSaid w pairs.now → AreNoted w k marks.old → AreNoted w k marks.new }
+{
+    let mut changed = false;
+    for pair in pairs {
+        let new = follow(marks, pair);
+        changed = either(changed, new);
+    }
+    changed
+}
+
+// Notes what follows, round by round, as long as anything is new.
+fn follow_chains(marks: &mut [u8], pairs: &[Inside])
+    ensures { (w : ℕ → ℕ) (k : ℕ) → AreSaid w pairs.now → AreNoted w k marks.old → AreNoted w k marks.new }
+{
+    for _round in 0..ROUNDS {
+        if !follow_all(marks, pairs) {
+            return;
+        }
+    }
+}
+
+// Whether chains of pairs say that class k has fewer symbols than class l.
+fn is_reached(pairs: &[Inside], k: usize, l: usize) -> bool
+    ensures { IsTrue result → (w : ℕ → ℕ) → AreSaid w pairs.now → w k < w l }
+{
+    let mut marks = [0u8; CLASSES];
+    let _new = note(&mut marks, k, NO_FEWER);
+    follow_chains(&mut marks, pairs);
+    noted(&marks, l) == MORE
+}
+
+/// The classes that sums add, which have no more symbols than the sums.
+pub(crate) fn insides(
     alloc: Global,
     sig: &Signature,
     table: &Table,
@@ -136,78 +235,6 @@ fn addends(
     Ok(list)
 }
 
-// Whether one of both holds.
-fn either(a: bool, b: bool) -> bool
-    ensures { result ≡ (a || b) }
-{
-    if a {
-        return true;
-    }
-    b
-}
-
-// Notes what follows of one pair and those that begin where it ends.
-fn note_chains(list: &mut Vec<Inside>, pairs: &[Inside], first: Inside) -> Result<(), NoMemory>
-    ensures { OnOk result ((w : ℕ → ℕ) → IsSaid w first → AreSaid w pairs.now → AreSaid w list.old.items
-        → AreSaid w list.new.items) }
-{
-    for second in pairs {
-        if second.small != first.large {
-            continue;
-        }
-        list.push(Inside {
-            small: first.small,
-            large: second.large,
-            proper: either(first.proper, second.proper),
-        })?;
-    }
-    Ok(())
-}
-
-// The pairs, and what follows of two of them.
-fn chains(alloc: Global, pairs: &[Inside]) -> Result<Vec<Inside>, NoMemory>
-    ensures { IfOk result (λ v. (w : ℕ → ℕ) → AreSaid w pairs.now → AreSaid w v.items) }
-{
-    let mut list = Vec::new(alloc);
-    for first in pairs {
-        list.push(*first)?;
-        note_chains(&mut list, pairs, *first)?;
-    }
-    Ok(list)
-}
-
-// Whether there are no chains worth looking for: one operator alone makes none, and of many pairs there are too many.
-fn has_no_chains(reading: &Reading, pairs: &[Inside]) -> bool {
-    if reading.sums.as_slice().len() < 2 {
-        return true;
-    }
-    pairs.len() > PAIRS
-}
-
-// The classes that sums add, which have no more symbols than the sums, and what follows of up to four such pairs.
-pub(crate) fn insides(
-    alloc: Global,
-    sig: &Signature,
-    table: &Table,
-    state: &State,
-    reading: &Reading,
-    known: &Known,
-) -> Result<Vec<Inside>, NoMemory>
-    requires closed { IsClosed sig.now table.now state.now }
-    requires sums { HasSums sig.now table.now }
-    requires reading { IsReading sig.now table.now (class_of state.now) reading.now }
-    requires heads { TellHeads sig.now table.now state.now known.now.sorted known.now.heads.items }
-    ensures { IfOk result (λ v. AreInside sig.now table.now state.now known.now.sorted v.items) }
-{
-    let pairs = addends(alloc, sig, table, state, reading, known)?;
-    if has_no_chains(reading, pairs.as_slice()) {
-        return Ok(pairs);
-    }
-    let two = chains(alloc, pairs.as_slice())?;
-    let four = chains(alloc, two.as_slice())?;
-    Ok(four)
-}
-
 // Whether the pair says that class k has fewer symbols than class l.
 fn says(pair: &Inside, k: usize, l: usize) -> bool
     ensures { IsTrue result → (w : ℕ → ℕ) → IsSaid w pair.now → w k < w l }
@@ -222,7 +249,7 @@ fn says(pair: &Inside, k: usize, l: usize) -> bool
 }
 
 // Whether one of the pairs says so.
-pub(crate) fn is_smaller(pairs: &[Inside], k: usize, l: usize) -> bool
+fn is_said(pairs: &[Inside], k: usize, l: usize) -> bool
     ensures { IsTrue result → (w : ℕ → ℕ) → AreSaid w pairs.now → w k < w l }
 {
     for pair in pairs {
@@ -233,12 +260,60 @@ pub(crate) fn is_smaller(pairs: &[Inside], k: usize, l: usize) -> bool
     false
 }
 
+// Whether class l contains another one.
+fn has_parts(pairs: &[Inside], l: usize) -> bool {
+    for pair in pairs {
+        if pair.large != l {
+            continue;
+        }
+        if pair.small != l {
+            return true;
+        }
+    }
+    false
+}
+
+// Whether pairs, or chains of them where there are not too many, say that class k has fewer symbols than class l.
+pub(crate) fn is_smaller(pairs: &[Inside], k: usize, l: usize) -> bool
+    ensures { IsTrue result → (w : ℕ → ℕ) → AreSaid w pairs.now → w k < w l }
+{
+    if !has_parts(pairs, l) {
+        return false;
+    }
+    if pairs.len() > PAIRS {
+        return is_said(pairs, k, l);
+    }
+    is_reached(pairs, k, l)
+}
+
+// Whether a class has fewer symbols than itself, by this pair, or by a chain that begins with it.
+fn begins_circle(pairs: &[Inside], chained: bool, pair: &Inside) -> bool
+    ensures { IsTrue result → (w : ℕ → ℕ) → AreSaid w pairs.now → IsSaid w pair.now → ⊥ }
+{
+    if !pair.proper {
+        return false;
+    }
+    if pair.small == pair.large {
+        return true;
+    }
+    if !chained {
+        return false;
+    }
+    if pairs.len() > PAIRS {
+        return false;
+    }
+    if !has_parts(pairs, pair.small) {
+        return false;
+    }
+    is_reached(pairs, pair.small, pair.small)
+}
+
 // Whether a class has fewer symbols than itself.
-pub(crate) fn is_circular(pairs: &[Inside]) -> bool
+pub(crate) fn is_circular(pairs: &[Inside], chained: bool) -> bool
     ensures { IsTrue result → (w : ℕ → ℕ) → AreSaid w pairs.now → ⊥ }
 {
     for pair in pairs {
-        if says(pair, pair.large, pair.large) {
+        if begins_circle(pairs, chained, pair) {
             return true;
         }
     }

@@ -51,7 +51,7 @@ fn mark(marks: &mut Vec<bool>, k: usize, is: bool)
 fn unmarked(alloc: Global, count: usize) -> Result<Vec<bool>, NoMemory>
     ensures { IfOk result (λ v. IsUnmarked count v.items) }
 {
-    let mut marks = Vec::new(alloc);
+    let mut marks = Vec::with_capacity(alloc, count)?;
     for _i in 0..count {
         marks.push(false)?;
     }

@@ -1,20 +1,19 @@
 -- The minimal solutions of the sum operators that are read.
 use Rattle.std.specs.Prelude.{◌≡◌, ◌↔◌, ℕ, ◌≤◌, List, [], length, slice_get, slice_index_or, Some, All, AllPairs, Contains}
-use Rattle.fvn_base.specs.declared.limits.TheConstants.{COMPONENT, MINIMAL_SOLUTIONS}
+use Rattle.fvn_base.specs.declared.limits.TheConstants.{COMPONENT}
 use Rattle.fvn_base.specs.Order.{IsBefore}
 use Rattle.fvn_lindio.specs.declared.system.System.{System}
 use Rattle.fvn_lindio.specs.declared.system.Solution.{Solution}
 use Rattle.fvn_lindio.specs.Systems.{IsMinimal, rows_of, vectors_of}
-use Rattle.fvn_flat.specs.Solving.{IsRefused}
+use Rattle.fvn_acunify.specs.declared.limits.TheConstants.{LISTED_SOLUTIONS}
 use Rattle.fvn_combine_leaves.specs.declared.reading.Sums.{Sums}
 
--- exactly the minimal solutions of a system that is not refused, in lexicographic order
+-- exactly the minimal solutions of a system, in lexicographic order, and few enough for choices among them
 pub record IsBasis (s : System) (basis : List Solution) : Type 0 where
   pub exact : (v : List ℕ) → Contains (vectors_of basis) v ↔ IsMinimal s.columns (rows_of s) v
   pub ordered : AllPairs IsBefore (vectors_of basis)
-  pub few : length basis ≤ MINIMAL_SOLUTIONS
+  pub few : length basis ≤ LISTED_SOLUTIONS
   pub narrow : All (All (λ a. a ≤ COMPONENT)) (vectors_of basis)
-  pub kept : IsRefused s → ⊥
 
 -- those of each of the sum operators
 pub record AreBases (sums : List Sums) (bases : List (List Solution)) : Type 0 where

@@ -3,4 +3,3 @@ pub mod Leaves
 pub mod Readings
 pub mod Users
 pub mod Bases
-pub mod inner

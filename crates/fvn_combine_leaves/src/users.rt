@@ -1,6 +1,6 @@
 //! What a reading tells of classes.
 ghost use Rattle.std.specs.Prelude.{◌≡◌, ◌↔◌, ◌<◌, length, All, IsTrue};
-ghost use Rattle.fvn_combine_leaves.specs.Users.{IsWholeSums, IsWhole, IsMarked, IsFirstUser, HasTwoUsers, IsSharedIn, CanBeConstant, HaveHeads};
+ghost use Rattle.fvn_combine_leaves.specs.Users.{IsWholeSums, IsWhole, IsMarked, IsFirstUser, HasTwoUsers, IsSharedIn};
 
 use crate::reading::{Reading, Sums};
 
@@ -56,37 +56,5 @@ pub fn is_shared(reading: &Reading, n: usize, k: usize) -> bool
     match reading.heads.as_slice()[k] {
         None => has_two_users(reading.sums.as_slice(), n, k),
         Some(_) => false,
-    }
-}
-
-// Whether class k may be a constant of the operator.
-pub(crate) fn may_be_constant(reading: &Reading, n: usize, sums: &Sums, k: usize) -> bool
-    requires whole { IsWhole n reading.now }
-    requires sums { IsWholeSums n sums.now }
-    requires within { k < n }
-    ensures { IsTrue result ↔ CanBeConstant reading.now sums.now k }
-{
-    if !is_user(sums, k) {
-        return false;
-    }
-    match reading.heads.as_slice()[k] {
-        None => has_two_users(reading.sums.as_slice(), n, k),
-        Some(g) => g != sums.operator,
-    }
-}
-
-// Whether different operators head the classes.
-pub(crate) fn have_two_heads(reading: &Reading, k: usize, l: usize) -> bool
-    requires left { k < length reading.now.heads }
-    requires right { l < length reading.now.heads }
-    ensures { IsTrue result → HaveHeads reading.now k l }
-{
-    let heads = reading.heads.as_slice();
-    match heads[k] {
-        None => false,
-        Some(f) => match heads[l] {
-            None => false,
-            Some(g) => f != g,
-        },
     }
 }

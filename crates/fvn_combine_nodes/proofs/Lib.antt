@@ -2,25 +2,9 @@
 pub mod Nodes
 pub mod Lists
 pub mod Terms
-mod Entering
-mod Walking
-mod Pairing
-mod Entries
-pub mod Once
-mod Tables
 pub mod Subterms
 pub mod Admitting
-mod Moves
-mod Joining
 pub mod AxiomTests
-mod Alike
-mod Chaining
-mod Settling
-mod Openness
-mod Starting
-pub mod Powers
-mod Growing
-mod Swapping
 pub mod Heading
 pub mod Kernels
 mod Flatness

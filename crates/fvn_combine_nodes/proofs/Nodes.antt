@@ -160,3 +160,7 @@ terms-injective nodes distinct (k ∷ ks) (l ∷ ls) left right e =
 -- arguments are nodes
 pub arguments_within : (nodes : List Node) → IsOrdered nodes → (i : ℕ) (f : OpId) (ks : List ℕ) → IsOver nodes i f ks → All (λ k. k < length nodes) ks
 arguments_within nodes ordered i f ks is k d h = let a = ordered i f ks is k d h in let b = slice_get_within nodes i (App f ks) is in omega (arith, a, b)
+
+-- a node is one operator over one list
+pub over_unique : (nodes : List Node) (i : ℕ) (f g : OpId) (ks ls : List ℕ) → IsOver nodes i f ks → IsOver nodes i g ls → (f ≡ g) × (ks ≡ ls)
+over_unique nodes i f g ks ls a b = let e : Some (App f ks) ≡ Some (App g ls) = sym a ∙ b in (cc, cc)

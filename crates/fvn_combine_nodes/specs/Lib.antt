@@ -2,8 +2,5 @@
 pub mod Table
 pub mod Classes
 pub mod States
-pub mod Questions
-pub mod Trees
 pub mod Unifiers
 pub mod Laws
-pub mod inner

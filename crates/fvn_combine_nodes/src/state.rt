@@ -23,8 +23,8 @@ fn are_those(names: &[usize], k: usize, l: usize, i: usize, j: usize) -> bool
     names[l] == names[j]
 }
 
-// Whether the classes of two nodes are kept apart.
-pub(crate) fn is_kept_apart(names: &[usize], apart: &[(usize, usize)], i: usize, j: usize) -> bool
+/// Whether the classes of two nodes are kept apart, in a state of these names and pairs.
+pub fn is_kept_apart(names: &[usize], apart: &[(usize, usize)], i: usize, j: usize) -> bool
     requires left { i < length names.now }
     requires right { j < length names.now }
     requires kept { All (λ p. (p.0 < length names.now) × (p.1 < length names.now)) apart.now }

@@ -34,10 +34,10 @@ impl Node {
 /// The different subterms of a problem, each after its arguments, and the identities of its operators.
 #[derive(Drop)]
 pub struct Table {
-    pub(crate) nodes: Vec<Node>,
-    pub(crate) sides: Vec<(usize, usize)>,
-    pub(crate) subterms: Vec<usize>,
-    pub(crate) units: Vec<(OpId, usize)>,
+    nodes: Vec<Node>,
+    sides: Vec<(usize, usize)>,
+    subterms: Vec<usize>,
+    units: Vec<(OpId, usize)>,
 }
 
 impl Model for Table {
@@ -51,6 +51,34 @@ impl Model for Table {
 }
 
 impl Table {
+    /// The table that has these.
+    pub fn of_parts(
+        nodes: Vec<Node>,
+        sides: Vec<(usize, usize)>,
+        subterms: Vec<usize>,
+        units: Vec<(OpId, usize)>,
+    ) -> Table
+        requires { IsWellMade (record {
+          nodes = nodes.items;
+          sides = sides.items;
+          subterms = subterms.items;
+          units = units.items;
+        }) }
+        ensures { result ≡ record {
+          nodes = nodes.items;
+          sides = sides.items;
+          subterms = subterms.items;
+          units = units.items;
+        } }
+    {
+        Table {
+            nodes,
+            sides,
+            subterms,
+            units,
+        }
+    }
+
     /// Tells that the table is well made; it does nothing.
     pub fn recall_well_made(&self)
         ensures { IsWellMade self.now }

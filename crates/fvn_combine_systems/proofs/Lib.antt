@@ -3,7 +3,6 @@ pub mod Weighing
 pub mod Zeroes
 pub mod Members
 mod Counting
-mod Collected
 mod OfProblems
 mod Sizes
 mod Substituted

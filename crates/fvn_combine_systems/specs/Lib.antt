@@ -2,4 +2,3 @@
 pub mod NodeSystems
 pub mod Values
 pub mod Laws
-pub mod inner

@@ -5,7 +5,7 @@ use Rattle.std.proofs.lemmas.Bool.{cases_Bool}
 use Rattle.std.proofs.lemmas.List.{get_or-map, length-map, get_or_default}
 use Rattle.std.proofs.lemmas.List.Elements.{All-contains}
 use Rattle.std.proofs.lemmas.Option.{slice_get_within, slice_get-get_or, get_or_from_slice_get}
-use Rattle.fvn_base.specs.declared.limits.TheConstants.{MINIMAL_SOLUTIONS}
+use Rattle.fvn_acunify.specs.declared.limits.TheConstants.{LISTED_SOLUTIONS}
 use Rattle.fvn_base.proofs.Membership.{contains_none, contains_map, map_contains, filter_contains}
 use Rattle.fvn_terms.specs.declared.plain.Var.{Var as Variable}
 use Rattle.fvn_terms.specs.declared.plain.OpId.{OpId}
@@ -159,7 +159,7 @@ module _ {d : Declarations} {given : Pairs} {first : ℕ} {t : NodeTable} {s : S
     taken_at = ap (λ b. chosen ((choice_of r tags numbers).number e.operator) b) basis_at ∙ ap (λ n. chosen n (vectors_of (slice_index_or bases i []))) number_at
 
     -- few minimal solutions
-    pub few_at : length (vectors_of (slice_index_or bases i [])) ≤ MINIMAL_SOLUTIONS
+    pub few_at : length (vectors_of (slice_index_or bases i [])) ≤ LISTED_SOLUTIONS
     few_at =
         let n = c.listed.basis_each in
         let l = slice_get_within r.sums i e at in

@@ -6,7 +6,7 @@ use Rattle.std.proofs.lemmas.List.{length-map, length-append, length-replicate}
 use Rattle.std.proofs.lemmas.List.Elements.{All-cons}
 use Rattle.std.proofs.lemmas.List.Sums.{sum_by-cons}
 use Rattle.std.proofs.lemmas.Option.{slice_get_within, slice_get-get_or}
-use Rattle.fvn_base.specs.declared.limits.TheConstants.{MINIMAL_SOLUTIONS}
+use Rattle.fvn_acunify.specs.declared.limits.TheConstants.{LISTED_SOLUTIONS}
 use Rattle.fvn_base.proofs.Membership.{contains_here, contains_later, contains_cases, contains_none, contains_map, map_contains}
 use Rattle.fvn_terms.specs.declared.plain.Var.{Var as Variable}
 use Rattle.fvn_terms.specs.declared.plain.OpId.{OpId}
@@ -108,17 +108,17 @@ members_length columns (q ∷ parts) k p m =
 
 module _ {d : Declarations} {given : Pairs} {first : ℕ} {t : NodeTable} {s : State} {r : Reading} {bases : List (List Solution)} {tags : List (Option OpId)} {numbers : List ℕ} {names : List Variable} {binders : List Binder} {all : List (List Share)} (m : IsMade d given first t s r bases tags numbers names binders all) where
   module _ (i : ℕ) (e : Sums) (at : slice_get r.sums i ≡ Some e) where
-    are_shares : AreShares d t (class_of s) (tag_in tags) e names (start_of t first + MINIMAL_SOLUTIONS * i) (chosen (slice_index numbers i) (vectors_of (slice_index_or bases i []))) (slice_index_or all i [])
+    are_shares : AreShares d t (class_of s) (tag_in tags) e names (start_of t first + LISTED_SOLUTIONS * i) (chosen (slice_index numbers i) (vectors_of (slice_index_or bases i []))) (slice_index_or all i [])
     are_shares = m.shares_are.each i e at
 
-    pub share_stands : (j : ℕ) (p : Share) → slice_get (slice_index_or all i []) j ≡ Some p → StandsAt d t (class_of s) (tag_in tags) e names (start_of t first + MINIMAL_SOLUTIONS * i + j) p
+    pub share_stands : (j : ℕ) (p : Share) → slice_get (slice_index_or all i []) j ≡ Some p → StandsAt d t (class_of s) (tag_in tags) e names (start_of t first + LISTED_SOLUTIONS * i + j) p
     share_stands = are_shares.standing
 
     -- their solutions are those that are taken
     pub solutions_are : map (λ p. p.solution) (slice_index_or all i []) ≡ taken (systems_of r bases) (choice_of r tags numbers) e.operator
     solutions_are = are_shares.solutions ∙ sym (taken_at m.leaf i e at)
 
-    pub few_shares : length (slice_index_or all i []) ≤ MINIMAL_SOLUTIONS
+    pub few_shares : length (slice_index_or all i []) ≤ LISTED_SOLUTIONS
     few_shares =
         let a = length-map (slice_index_or all i []) (λ (p : Share). p.solution) in
         let b = ap length are_shares.solutions in
@@ -192,7 +192,7 @@ module _ {d : Declarations} {given : Pairs} {first : ℕ} {t : NodeTable} {s : S
         }
 
     -- the number of what stands for a solution: that of a name, or a number of its own
-    pub number_of : (j : ℕ) (p : Share) → slice_get (slice_index_or all i []) j ≡ Some p → (p.variable.name < start_of t first) ⊎ (p.variable.name ≡ start_of t first + MINIMAL_SOLUTIONS * i + j)
+    pub number_of : (j : ℕ) (p : Share) → slice_get (slice_index_or all i []) j ≡ Some p → (p.variable.name < start_of t first) ⊎ (p.variable.name ≡ start_of t first + LISTED_SOLUTIONS * i + j)
     number_of j p is = elim (share_stands j p is) [
       | inl (k, constant, some, named) ↦
           let l = column_within m.leaf.made m.leaf.ready.closed e.operator k constant.used.column in
@@ -228,7 +228,7 @@ module _ {d : Declarations} {given : Pairs} {first : ℕ} {t : NodeTable} {s : S
       ]
     ]
       where
-        named_new : (k : ℕ) → IsConstant d t (class_of s) (tag_in tags) e.operator k → (p : Share) → p.variable ≡ name_in names k → (j : ℕ) (q : Share) → q.variable.name ≡ start_of t first + MINIMAL_SOLUTIONS * i + j → p.variable ≢ q.variable
+        named_new : (k : ℕ) → IsConstant d t (class_of s) (tag_in tags) e.operator k → (p : Share) → p.variable ≡ name_in names k → (j : ℕ) (q : Share) → q.variable.name ≡ start_of t first + LISTED_SOLUTIONS * i + j → p.variable ≢ q.variable
         named_new k constant p named j q is same =
             let l = column_within m.leaf.made m.leaf.ready.closed e.operator k constant.used.column in
             let n = (m.names_are.each k l).number in

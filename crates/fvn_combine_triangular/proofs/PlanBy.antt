@@ -4,7 +4,8 @@ use Rattle.std.specs.Prelude.{slice_get}
 use Rattle.std.proofs.lemmas.Bool.{cases_order}
 use Rattle.std.proofs.lemmas.List.{length-map, get_or-map}
 use Rattle.std.proofs.lemmas.Option.{slice_get_within, get_or_from_slice_get}
-use Rattle.fvn_base.specs.declared.limits.TheConstants.{MINIMAL_SOLUTIONS, NEXT_FRESH}
+use Rattle.fvn_base.specs.declared.limits.TheConstants.{NEXT_FRESH}
+use Rattle.fvn_acunify.specs.declared.limits.TheConstants.{LISTED_SOLUTIONS}
 use Rattle.fvn_base.proofs.Membership.{map_contains}
 use Rattle.fvn_terms.specs.declared.plain.Var.{Var as Variable}
 use Rattle.fvn_terms.specs.declared.plain.OpId.{OpId}
@@ -35,7 +36,7 @@ use Rattle.fvn_combine_triangular.proofs.Parts.{element_at, place_at, share_stan
 
 -- the number after those of all new variables
 abbrev pub next_of : NodeTable → Reading → ℕ → ℕ
-next_of t r first = start_of t first + MINIMAL_SOLUTIONS * length r.sums
+next_of t r first = start_of t first + LISTED_SOLUTIONS * length r.sums
 
 module _ {d : Declarations} {given : Pairs} {first : ℕ} {t : NodeTable} {s : State} {r : Reading} {bases : List (List Solution)} {tags : List (Option OpId)} {numbers : List ℕ} {names : List Variable} {binders : List Binder} {all : List (List Share)} (m : IsMade d given first t s r bases tags numbers names binders all) where
   -- the form of a class is one that the choice makes

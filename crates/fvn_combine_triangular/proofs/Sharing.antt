@@ -4,7 +4,7 @@ use Rattle.std.specs.Prelude.{slice_get}
 use Rattle.std.proofs.lemmas.List.{get_or_default, get_or-map, length-map}
 use Rattle.std.proofs.lemmas.List.Elements.{All-contains, Contains-get_or}
 use Rattle.std.proofs.lemmas.Option.{slice_get_within, get_or_from_slice_get}
-use Rattle.fvn_base.specs.declared.limits.TheConstants.{MINIMAL_SOLUTIONS}
+use Rattle.fvn_acunify.specs.declared.limits.TheConstants.{LISTED_SOLUTIONS}
 use Rattle.fvn_terms.specs.declared.plain.Var.{Var as Variable}
 use Rattle.fvn_terms.specs.declared.plain.OpId.{OpId}
 use Rattle.fvn_terms.specs.declared.declarations.Declarations.{Declarations}
@@ -30,15 +30,15 @@ module _ (d : Declarations) (t : NodeTable) (class : ℕ → ℕ) (tag : ℕ →
   abbrev pub AreSharesAt : ℕ → List Share → Type 0
   AreSharesAt i shares =
       (s : Sums) → slice_get sums i ≡ Some s
-      → AreShares d t class tag s names (start + MINIMAL_SOLUTIONS * i) (chosen (slice_index numbers i) (vectors_of (slice_index_or bases i []))) shares
+      → AreShares d t class tag s names (start + LISTED_SOLUTIONS * i) (chosen (slice_index numbers i) (vectors_of (slice_index_or bases i []))) shares
 
   -- what was made for the operator that was read
   pub shares_here : (i : ℕ) (list : List Sums) (s : Sums) (basis found : List Solution) (next : ℕ) (shares : List Share) → list ≡ sums → i < length sums → s ≡ get_or list i s → i < length bases → basis ≡ found → found ≡ get_or bases i found
-      → next ≡ start + MINIMAL_SOLUTIONS * i → AreShares d t class tag s names next (chosen (slice_index numbers i) (vectors_of basis)) shares → AreSharesAt i shares
+      → next ≡ start + LISTED_SOLUTIONS * i → AreShares d t class tag s names next (chosen (slice_index numbers i) (vectors_of basis)) shares → AreSharesAt i shares
   shares_here i list s basis found next shares same l is lb basis_is found_is next_is are e at =
       let one : s ≡ e = is ∙ ap (λ l. get_or l i s) same ∙ get_or_from_slice_get sums i e s at in
       let basis_same : basis ≡ slice_index_or bases i [] = basis_is ∙ found_is ∙ get_or_default bases i found [] lb in
-      subst (λ (s : Sums). AreShares d t class tag s names (start + MINIMAL_SOLUTIONS * i) (chosen (slice_index numbers i) (vectors_of (slice_index_or bases i []))) shares) one
+      subst (λ (s : Sums). AreShares d t class tag s names (start + LISTED_SOLUTIONS * i) (chosen (slice_index numbers i) (vectors_of (slice_index_or bases i []))) shares) one
       (subst (λ n. AreShares d t class tag s names n (chosen (slice_index numbers i) (vectors_of (slice_index_or bases i []))) shares) next_is
       (subst (λ b. AreShares d t class tag s names next (chosen (slice_index numbers i) (vectors_of b)) shares) basis_same are))
 
@@ -49,7 +49,7 @@ module _ (d : Declarations) (t : NodeTable) (class : ℕ → ℕ) (tag : ℕ →
   }
 
 -- the number after those of one more operator
-pub next_number : (next start i : ℕ) → next ≡ start + MINIMAL_SOLUTIONS * i → next + 24 ≡ start + MINIMAL_SOLUTIONS * (i + 1)
+pub next_number : (next start i : ℕ) → next ≡ start + LISTED_SOLUTIONS * i → next + 31 ≡ start + LISTED_SOLUTIONS * (i + 1)
 next_number next start i e = omega (arith, e)
 
 -- what is asked is within the columns and the solution

@@ -1,6 +1,7 @@
 -- What the bindings of a choice are made from, and what they promise.
 use Rattle.std.specs.Prelude.{◌≡◌, ◌↔◌, ℕ, ◌+◌, ◌*◌, ◌≤◌, List, length, slice_get, Some, All, AllPairs, Contains, ◌≢◌}
-use Rattle.fvn_base.specs.declared.limits.TheConstants.{MINIMAL_SOLUTIONS, FIRST_FRESH, NEXT_FRESH}
+use Rattle.fvn_base.specs.declared.limits.TheConstants.{FIRST_FRESH, NEXT_FRESH}
+use Rattle.fvn_acunify.specs.declared.limits.TheConstants.{LISTED_SOLUTIONS}
 use Rattle.fvn_terms.specs.declared.plain.Var.{Var}
 use Rattle.fvn_terms.specs.declared.declarations.Declarations.{Declarations}
 use Rattle.fvn_flat.specs.Bindings.{Bindings}
@@ -31,8 +32,8 @@ pub record IsReady (d : Declarations) (given : Pairs) (first : ℕ) (t : NodeTab
 pub record AreListed (t : NodeTable) (r : Reading) (bases : List (List Solution)) (numbers : List ℕ) : Type 0 where
   pub basis_each : length bases ≡ length r.sums
   pub number_each : length numbers ≡ length r.sums
-  pub few : All (λ basis. length basis ≤ MINIMAL_SOLUTIONS) bases
-  pub room : length t.nodes + MINIMAL_SOLUTIONS * length r.sums ≤ FIRST_FRESH
+  pub few : All (λ basis. length basis ≤ LISTED_SOLUTIONS) bases
+  pub room : length t.nodes + LISTED_SOLUTIONS * length r.sums ≤ FIRST_FRESH
 
 -- the variables that are nodes of the table, each once
 pub record AreVariablesOf (t : NodeTable) (vars : List Var) : Type 0 where

@@ -81,16 +81,21 @@ fn is_simple(sig: &Signature, table: &Table, i: usize) -> bool
     }
 }
 
-// The first node of class k that a free or commutative operator heads.
+// The first node of class k that a free or commutative operator heads. No node before the one that names a class is in
+// it, and what names no class has none.
 fn member_of(sig: &Signature, table: &Table, state: &State, k: usize) -> Option<usize>
-    requires { length state.now.names ≡ length table.now.nodes }
+    requires closed { IsClosed sig.now table.now state.now }
+    requires within { k < length table.now.nodes }
     ensures { MatchOption result
         ((i : ℕ) → i < length table.now.nodes → class_of state.now i ≡ k
         → IsSimpleNode sig.now table.now i → ⊥)
         (λ i. (i < length table.now.nodes) × (class_of state.now i ≡ k)
         × IsSimpleNode sig.now table.now i) }
 {
-    for i in 0..table.nodes().len() {
+    if state.class_of(k) != k {
+        return None;
+    }
+    for i in k..table.nodes().len() {
         if state.class_of(i) != k {
             continue;
         }
@@ -139,7 +144,7 @@ pub(crate) fn binders_of(
     ensures { IfOk result (λ v. AreBinders sig.now table.now (class_of state.now) (tag_in tags.now)
         reading.now.sums v.items) }
 {
-    let mut binders = Vec::new(alloc);
+    let mut binders = Vec::with_capacity(alloc, table.nodes().len())?;
     for k in 0..table.nodes().len() {
         binders.push(binder_of(sig, table, state, reading, tags, k))?;
     }

@@ -145,7 +145,7 @@ fn class_bindings(
         reading.now.sums (map (λ w. w.items) shares.now) binders.now
         (length table.now.nodes) v.items) }
 {
-    let mut bindings = Vec::new(alloc);
+    let mut bindings = Vec::with_capacity(alloc, table.nodes().len())?;
     for k in 0..table.nodes().len() {
         if state.class_of(k) != k {
             continue;
@@ -171,7 +171,8 @@ fn variable_bindings(
         (length table.now.nodes) v.items) }
 {
     table.recall_well_made();
-    let mut bindings = Vec::new(alloc);
+    // There is room for the bindings of the classes behind them.
+    let mut bindings = Vec::with_capacity(alloc, table.nodes().len().saturating_mul(2))?;
     for i in 0..table.nodes().len() {
         match table.node(i) {
             Node::Var(x) => bindings.push((*x, Flat::var(names[state.class_of(i)])))?,

@@ -49,7 +49,7 @@ pub(crate) fn names_of(
     ensures { IfOk result (λ v. AreNames sig.now table.now first v.items) }
 {
     table.recall_well_made();
-    let mut names = Vec::new(alloc);
+    let mut names = Vec::with_capacity(alloc, table.nodes().len())?;
     let mut number = first;
     for i in 0..table.nodes().len() {
         names.push(Var {

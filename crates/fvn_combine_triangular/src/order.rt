@@ -51,7 +51,7 @@ pub(crate) fn in_order(
         (λ v. IsOrderOf bindings.items v.items)) }
 {
     let mut rest = bindings;
-    let mut placed = Vec::new(alloc);
+    let mut placed = Vec::with_capacity(alloc, rest.len())?;
     while let Some(i) = source_of(rest.as_slice()) {
         let binding = rest.remove(i);
         placed.push(binding)?;

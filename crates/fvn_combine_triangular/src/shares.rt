@@ -1,6 +1,6 @@
 //! What stands for the minimal solutions that are taken.
 ghost use Rattle.std.specs.Prelude.{◌≡◌, ◌+◌, ◌*◌, ◌<◌, ◌≤◌, ◌^◌, map, length, All, Contains, IfOk};
-ghost use Rattle.fvn_base.specs.declared.limits.TheConstants.{MINIMAL_SOLUTIONS as most};
+ghost use Rattle.fvn_acunify.specs.declared.limits.TheConstants.{LISTED_SOLUTIONS as most};
 ghost use Rattle.fvn_lindio.specs.Systems.{vectors_of};
 ghost use Rattle.fvn_acunify.specs.ValidChoice.{chosen};
 ghost use Rattle.fvn_combine_nodes.specs.States.{IsClosed, class_of};
@@ -13,8 +13,8 @@ ghost use Rattle.fvn_combine_triangular.specs.inner.Planning.{
   AreSized,
 };
 
+use fvn_acunify::limits::LISTED_SOLUTIONS;
 use fvn_base::Seq;
-use fvn_base::limits::MINIMAL_SOLUTIONS;
 use fvn_combine_admissible::{asked, taken};
 use fvn_combine_leaves::{Reading, Sums};
 use fvn_combine_nodes::{State, Table};
@@ -78,7 +78,7 @@ fn shares_of(
     let asked = asked(alloc, sig, table, state, reading, tags, sums)?;
     let solutions = taken(alloc, basis, number)?;
     let kind = sig.operator_kind(sums.operator);
-    let mut shares = Vec::new(alloc);
+    let mut shares = Vec::with_capacity(alloc, solutions.len())?;
     let mut next = start;
     for solution in solutions.as_slice() {
         let fresh = Var {
@@ -134,7 +134,7 @@ pub(crate) fn all_shares(
             alloc, sig, table, state, reading, tags, &sums[i], basis, numbers[i], names, next,
         )?;
         all.push(shares)?;
-        next += MINIMAL_SOLUTIONS as u32;
+        next += LISTED_SOLUTIONS as u32;
     }
     Ok(all)
 }

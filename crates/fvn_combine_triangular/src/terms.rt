@@ -1,5 +1,5 @@
 //! What a class is bound to.
-ghost use Rattle.std.specs.Prelude.{◌≡◌, ◌++◌, ◌<◌, map, replicate, length, slice_index_or, All, IfOk, OnOk};
+ghost use Rattle.std.specs.Prelude.{◌≡◌, ◌++◌, ◌<◌, ℕ, List, map, replicate, length, slice_index_or, All, IfOk, OnOk};
 ghost use Rattle.fvn_forms.specs.Flat.{fvar};
 ghost use Rattle.fvn_forms.specs.Canon.{sum};
 ghost use Rattle.fvn_flat.specs.SolvedLists.{component, members};
@@ -29,24 +29,33 @@ pub(crate) fn names_over(
     ensures { IfOk result (λ v. v.items
         ≡ map (λ k. fvar (slice_index_or names.now (class_of state.now k) no_name)) ks.now) }
 {
-    let mut args = Vec::new(alloc);
+    let mut args = Vec::with_capacity(alloc, ks.len())?;
     for k in ks {
         args.push(Flat::var(names[state.class_of(*k)]))?;
     }
     Ok(args)
 }
 
-// The component of a solution in the column of class k; 0 where there is none.
-fn component(columns: &[usize], parts: &[u32], k: usize) -> u32
-    requires { length parts.now ≡ length columns.now }
-    ensures { result ≡ component columns.now parts.now k }
+// The place of the first column of class k; past all columns where there is none.
+fn column_of(columns: &[usize], k: usize) -> usize
+    ensures { (v : List ℕ) → length v ≡ length columns.now → component columns.now v k ≡ slice_index_or v result 0 }
 {
     for j in 0..columns.len() {
         if columns[j] == k {
-            return parts[j];
+            return j;
         }
     }
-    0
+    columns.len()
+}
+
+// What a solution has at a place; past its end, zero.
+fn part_at(parts: &[u32], j: usize) -> u32
+    ensures { result ≡ slice_index_or parts.now j 0 }
+{
+    match parts.get(j) {
+        Some(n) => *n,
+        None => 0,
+    }
 }
 
 // Adds a variable so many times.
@@ -69,9 +78,10 @@ pub(crate) fn members_of(
     requires { All (λ s. length s.solution ≡ length columns.now) shares.now }
     ensures { IfOk result (λ v. v.items ≡ members columns.now (map part_of shares.now) k) }
 {
-    let mut terms = Vec::new(alloc);
+    let mut terms = Vec::with_capacity(alloc, shares.len())?;
+    let column = column_of(columns, k);
     for share in shares {
-        let count = component(columns, share.solution.as_slice(), k);
+        let count = part_at(share.solution.as_slice(), column);
         add_copies(&mut terms, share.variable, count)?;
     }
     Ok(terms)

@@ -1,16 +1,18 @@
 -- Bindings that are replaced one after another give what their variables unfold to.
 use Rattle.std.proofs.Common.{◌≡◌, ℕ, suc, ◌+◌, ◌<◌, ◌≤◌, Bool, true, false, [], ◌∷◌, length, get_or, drop, Some, None, refl, sym, ap, ◌∙◌, subst, arith, All}
-use Rattle.std.specs.Prelude.{if◌then◌else◌}
+use Rattle.std.specs.Prelude.{if◌then◌else◌, ◌==◌}
+use Rattle.std.proofs.lemmas.Bool.{eqb-true}
 use Rattle.std.proofs.Math.Seq.{drop-cons}
 use Rattle.std.proofs.lemmas.List.{drop_all}
 use Rattle.std.proofs.lemmas.List.Elements.{All-head, All-tail}
 use Rattle.fvn_terms.specs.declared.plain.Var.{Var}
+use Rattle.fvn_terms.specs.declared.plain.OpId.{OpId}
 use Rattle.fvn_terms.specs.declared.declarations.Declarations.{Declarations}
 use Rattle.fvn_terms.specs.Term.{var}
 use Rattle.fvn_terms.specs.Substitution.{Substitution, apply, followed_by, Occurs, same_var}
 use Rattle.fvn_terms.specs.Signature.{kind, IsSort}
 use Rattle.fvn_terms.proofs.Substitutions.{apply-apply, apply-var, apply-agree}
-use Rattle.fvn_forms.specs.Flat.{FlatTerm, fvar, fapp, plain}
+use Rattle.fvn_forms.specs.Flat.{FlatTerm, fvar, fapp, fnone, fmore, funpack, plain}
 use Rattle.fvn_forms.specs.Canon.{eval, canon}
 use Rattle.fvn_forms.specs.Settled.{Settled, SettledValues}
 use Rattle.fvn_forms.specs.Good.{IsGood}
@@ -19,7 +21,7 @@ use Rattle.fvn_forms.proofs.Instances.{inst_settled, inst_eval}
 use Rattle.fvn_forms.proofs.LeastSort.{inst_of_kind}
 use Rattle.fvn_flat.specs.Bindings.{Bindings, form_or, value, BindingsFit}
 use Rattle.fvn_flat.specs.SolvedLists.{only, unfolded}
-use Rattle.fvn_flat.specs.Forms.{variable_of}
+use Rattle.fvn_flat.specs.Forms.{variable_of, head_of, args_of}
 use Rattle.fvn_flat.proofs.Binding.{same_var_is, bound_first}
 use Rattle.fvn_flat.proofs.Composing.{empty_fits, bind_fits}
 use Rattle.fvn_combine_choices.specs.Plans.{unfolds_to}
@@ -30,6 +32,13 @@ use Rattle.fvn_combine_unfolding.specs.inner.Replaced.{step, replaced}
 pub variable_is : (t : FlatTerm) (x : Var) → variable_of t ≡ Some x → t ≡ fvar x
 variable_is (fvar y) x e = let q : y ≡ x = cc in ap fvar q
 variable_is (fapp f joined ts) x e = cc
+
+-- no variable occurs in a constant
+pub constant_free : (t : FlatTerm) (f : OpId) → head_of t ≡ Some f → (length (args_of t) == 0) ≡ true → (y : Var) → Occurs y (plain t) → ⊥
+constant_free (fvar x) f h n y o = cc
+constant_free (fapp f true fnone) g h n y o = o
+constant_free (fapp f false fnone) g h n y o = o
+constant_free (fapp f joined (fmore t ts)) g h n y o = absurd (let e = eqb-true (length (t ∷ funpack ts)) 0 n in omega (arith, e))
 
 module _ (d : Declarations) where
   -- the variable itself becomes what it is bound to
@@ -83,6 +92,13 @@ module _ (d : Declarations) where
       let here = All-head (IsFitting d) b bindings h in
       replaced_is bindings (All-tail (IsFitting d) b bindings h) (step d b t) (step_settled b here t)
       ∙ after_one (unfolded bindings) b here t
+
+  -- a form without variables stays as it is
+  pub replaced_free : (bindings : Bindings) → All (IsFitting d) bindings → (t : FlatTerm) → Settled d t → ((y : Var) → Occurs y (plain t) → ⊥) → replaced d bindings t ≡ t
+  replaced_free [] h t flat free = refl
+  replaced_free (b ∷ bindings) h t flat free =
+      ap (replaced d bindings) (sym (step_free b (All-head (IsFitting d) b bindings h) t flat (free b.0)))
+      ∙ replaced_free bindings (All-tail (IsFitting d) b bindings h) t flat free
 
   -- what a variable unfolds to
   pub unfolding_is : (bindings : Bindings) → All (IsFitting d) bindings → (x : Var) → replaced d bindings (fvar x) ≡ unfolds_to d bindings x

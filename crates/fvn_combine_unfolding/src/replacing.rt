@@ -2,7 +2,8 @@
 ghost use Rattle.std.specs.Prelude.{◌≡◌, ◌↔◌, Some, is_some, All, Contains, IfOk, IsTrue};
 ghost use Rattle.fvn_terms.specs.declared.plain.Var.{Var as Variable};
 ghost use Rattle.fvn_terms.specs.Signature.{IsSort};
-ghost use Rattle.fvn_forms.specs.Flat.{FlatTerm, fvar};
+ghost use Rattle.fvn_terms.specs.Substitution.{Occurs};
+ghost use Rattle.fvn_forms.specs.Flat.{FlatTerm, fvar, plain};
 ghost use Rattle.fvn_flat.specs.Fits.{Fits};
 ghost use Rattle.fvn_flat.specs.Bindings.{bound, value, BindingsFit};
 ghost use Rattle.fvn_combine_choices.specs.Plans.{unfolds_to};
@@ -28,6 +29,16 @@ fn is_variable(t: &Flat, x: Var) -> bool
     match t.as_var() {
         Some(y) => are_one(y, x),
         None => false,
+    }
+}
+
+// Whether the term is a constant, so that nothing of it is replaced.
+fn is_constant(t: &Flat) -> bool
+    ensures { IsTrue result → (y : Variable) → Occurs y (plain t.now) → ⊥ }
+{
+    match t.head() {
+        None => false,
+        Some(_) => t.args().is_empty(),
     }
 }
 
@@ -66,7 +77,13 @@ fn unfolded(
     sig.recall_good();
     let mut t = Flat::var(x);
     for (y, u) in bindings {
+        if !t.has_var(*y) {
+            continue;
+        }
         t = replaced_one(alloc, sig, *y, u, t)?;
+        if is_constant(&t) {
+            return Ok(t);
+        }
     }
     Ok(t)
 }

@@ -74,7 +74,7 @@ fn sizes_of(
     requires { All (λ b. Settled sig.now b.1) bindings.now }
     ensures { IfOk result (λ sizes. sizes.items ≡ noted_sizes bindings.now) }
 {
-    let mut sizes = Vec::new(alloc);
+    let mut sizes = Vec::with_capacity(alloc, bindings.len())?;
     let mut i = bindings.len();
     while i > 0 {
         i -= 1;

@@ -1,5 +1,5 @@
 //! Variants that are kept with the values of their variables, their profiles and their marks.
-ghost use Rattle.std.specs.Prelude.{◌≡◌, ◌↔◌, IsTrue, IfOk, All};
+ghost use Rattle.std.specs.Prelude.{◌≡◌, ◌↔◌, false, IsTrue, IfOk, All};
 ghost use Rattle.fvn_cover_counts.specs.Marks.{AreUnkept};
 ghost use Rattle.fvn_cover.specs.Covering.{values_of, CoversVariant, AreAlike, IsFlatVariant};
 ghost use Rattle.fvn_cover.specs.inner.Profiled.{IsProfiled, IsMarked};
@@ -107,6 +107,9 @@ impl Kept {
     }
 
     // Whether this one covers the other, by all that stands beside them.
+    //
+    // It stands apart, so that the marks are compared in the loop that asks.
+    #[inline(never)]
     fn is_covering_shown(
         &self,
         alloc: Global,
@@ -127,6 +130,7 @@ impl Kept {
     }
 
     // Whether this one covers the other; the marks alone are looked at first, since they refuse most.
+    #[inline(always)]
     pub(crate) fn is_covering(
         &self,
         alloc: Global,
@@ -145,6 +149,16 @@ impl Kept {
         }
         let r = self.is_covering_shown(alloc, sig, out, other)?;
         Ok(r)
+    }
+
+    // Whether the marks leave it open that this one covers the other.
+    pub(crate) fn may_cover(&self, sig: &Signature, out: Unkept, other: &Kept) -> bool
+        requires out { AreUnkept sig.now out }
+        requires alike { AreAlike self.now other.now }
+        ensures { result ≡ false → CoversVariant sig.now self.now other.now → ⊥ }
+    {
+        let _sig = sig;
+        self.marks.may_cover(out, &other.marks)
     }
 
     /// The variant alone.

@@ -1,5 +1,5 @@
 //! Lists of variants without those that another one covers.
-ghost use Rattle.std.specs.Prelude.{◌≡◌, ◌↔◌, IsTrue, IfOk, All, AllPairs, Any};
+ghost use Rattle.std.specs.Prelude.{◌≡◌, ◌↔◌, false, IsTrue, IfOk, All, AllPairs, Any};
 ghost use Rattle.fvn_cover.specs.Covering.{CoversVariant, AreAlike, IsFlatVariant};
 ghost use Rattle.fvn_cover.specs.Pruning.{IsCoveredBySome, IsPruned};
 ghost use Rattle.fvn_cover.specs.Adding.{IsLeft, IsAdded};
@@ -30,6 +30,47 @@ pub(crate) fn is_covered(
         }
     }
     Ok(false)
+}
+
+// What one look through a list tells of a variant.
+#[derive(Clone, Copy)]
+struct Look {
+    // Some member of the list covers the variant.
+    covered: bool,
+    // Marks leave it open that the variant covers a member of the list.
+    open: bool,
+}
+
+// Whether it was open so far, or is now.
+fn is_open(before: bool, now: bool) -> bool
+    ensures { result ≡ false → (before ≡ false) × (now ≡ false) }
+{
+    before || now
+}
+
+// One look through the list: the marks of each member are compared both ways, so that a list of which no member is
+// covered is gone through once, where all marks refuse it.
+fn looked_through(alloc: Global, sig: &Signature, list: &[Kept], v: &Kept) -> Result<Look, NoMemory>
+    requires flat { IsFlatVariant sig.now v.now × All (IsFlatVariant sig.now) list.now }
+    requires alike { All (λ k. AreAlike k v.now) list.now }
+    ensures covered { IfOk result (λ l. IsTrue l.covered ↔ IsCoveredBySome sig.now list.now v.now) }
+    ensures open { IfOk result (λ l. l.open ≡ false → Any (CoversVariant sig.now v.now) list.now → ⊥) }
+{
+    let out = Unkept::of(sig);
+    let mut open = false;
+    for k in list {
+        if k.is_covering(alloc, sig, out, v)? {
+            return Ok(Look {
+                covered: true,
+                open: true,
+            });
+        }
+        open = is_open(open, v.may_cover(sig, out, k));
+    }
+    Ok(Look {
+        covered: false,
+        open,
+    })
 }
 
 // Whether the variant covers some member of the list.
@@ -117,11 +158,17 @@ pub fn with_member(
     requires alike { All (λ k. AreAlike k v) list.items }
     ensures { IfOk result (λ after. IsAdded sig.now list.items v after.items) }
 {
-    if is_covered(alloc, sig, list.as_slice(), &v)? {
+    let look = looked_through(alloc, sig, list.as_slice(), &v)?;
+    if look.covered {
         return Ok(list);
     }
-    let after = with_uncovered(alloc, sig, list, v)?;
-    Ok(after)
+    if look.open {
+        let after = with_uncovered(alloc, sig, list, v)?;
+        return Ok(after);
+    }
+    let mut more = list;
+    more.push(v)?;
+    Ok(more)
 }
 
 // The variants alone.

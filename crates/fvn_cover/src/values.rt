@@ -25,7 +25,7 @@ fn value(alloc: Global, s: &Subst, x: Var) -> Result<Flat, NoMemory>
 pub(crate) fn values(alloc: Global, v: &Variant) -> Result<Vec<Flat>, NoMemory>
     ensures { IfOk result (λ ts. ts.items ≡ values_of v.now) }
 {
-    let mut ts = Vec::new(alloc);
+    let mut ts = Vec::with_capacity(alloc, v.vars.len())?;
     for x in v.vars.as_slice() {
         let t = value(alloc, &v.subst, *x)?;
         ts.push(t)?;

@@ -10,6 +10,7 @@ mod Turning
 mod Firsts
 mod Takings
 mod Chunks
+mod Shares
 mod Begins
 mod Rounds
 mod Copies

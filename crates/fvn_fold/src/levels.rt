@@ -7,6 +7,7 @@ ghost use Rattle.fvn_exploring.specs.declared.ends.ExpandEnd.TheVariants.{Whole}
 ghost use Rattle.fvn_fold.specs.inner.Gathering.{IsTask, AreReady, IsGatheredFrom, IsMarkedOrAdded, AreTaken, AreNext, IsMoreOfLevel, IsNextLevel};
 
 use crate::expanding::expand_level;
+use crate::sharing::{COMPARISONS, MEMBERS, sharers};
 use fvn_cover::{
     Gate, Kept, Variant, all_kept, covering_of_variants_is_a_preorder, marks, with_member,
 };
@@ -124,6 +125,7 @@ fn taken(
 }
 
 // Some members of a level: what the next level is with what their children add, and their first end that is not Whole.
+// Small work is not shared: a thread costs more than it would save.
 fn chunk_level<R: Threads + Sync, G: Gate, E: Expander>(
     rt: &R,
     task: &Task<'_, E>,
@@ -142,17 +144,20 @@ fn chunk_level<R: Threads + Sync, G: Gate, E: Expander>(
         kept.now members.now before.items l.next.items l.end) }
 {
     let workers = task.limits.workers;
-    let expansions = expand_level(rt, task.alloc, task.expander, members, workers, gate)?;
+    let expanding = sharers(workers, members.len(), MEMBERS);
+    let expansions = expand_level(rt, task.alloc, task.expander, members, expanding, gate)?;
     let found = gather(task.alloc, expansions)?;
     let Gathered { candidates, end } = found;
     let children = all_kept(task.alloc, task.sig, candidates)?;
+    let comparisons = children.len().saturating_mul(kept.len());
+    let comparing = sharers(workers, comparisons, COMPARISONS);
     let covered = marks(
         rt,
         task.alloc,
         task.sig,
         kept,
         children.as_slice(),
-        workers,
+        comparing,
         gate,
     )?;
     let next = taken(

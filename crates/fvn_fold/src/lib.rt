@@ -7,6 +7,7 @@ mod expanding;
 mod exploring;
 mod levels;
 mod runs;
+mod sharing;
 
 pub use expanding::expand_level;
 pub use exploring::explore;

@@ -4,7 +4,7 @@ use Rattle.fvn_base.specs.Order.{IsBefore}
 use Rattle.std.proofs.lemmas.Bool.{cases_order}
 use Rattle.fvn_terms.specs.declared.plain.OpId.{OpId}
 use Rattle.fvn_terms.specs.declared.plain.SortId.{SortId}
-use Rattle.fvn_signature.specs.declared.collected.Collected.{Collected}
+use Rattle.fvn_signature_draft.specs.declared.collected.Collected.{Collected}
 use Rattle.fvn_sorts.specs.declared.conditions.fault.SigFault.{SigFault}
 use Rattle.fvn_sorts.specs.declared.conditions.fault.SigFault.TheVariants.{SortCycle, KindsDiffer, AxiomShape, AxiomsDiffer, IdentityBad, NotPreregular, NotAssocSorts, NotCollapsing, TooMany, NoMemory}
 use Rattle.fvn_sorts.specs.Faults.{IsEarlier, IsFirstFault as IsFirstSignatureFault, condition, witness, sort_numbers}

@@ -10,9 +10,9 @@ use Rattle.fvn_base.proofs.Membership.{contains_here, contains_later, contains_n
 use Rattle.fvn_terms.specs.declared.plain.OpId.{OpId}
 use Rattle.fvn_terms.specs.declared.declarations.Rank.{Rank}
 use Rattle.fvn_terms.specs.Signature.{declared, unknown}
-use Rattle.fvn_signature.specs.declared.collected.Declaration.{Declaration}
-use Rattle.fvn_signature.specs.declared.collected.Collected.{Collected}
-use Rattle.fvn_signature.specs.Collected.{op_number, same_op, declarations_of, meant_or_kind, rank_meant, operator_meant, completed}
+use Rattle.fvn_signature_draft.specs.declared.collected.Declaration.{Declaration}
+use Rattle.fvn_signature_draft.specs.declared.collected.Collected.{Collected}
+use Rattle.fvn_signature_draft.specs.Collected.{op_number, same_op, declarations_of, meant_or_kind, rank_meant, operator_meant, completed}
 use Rattle.fvn_syntax.specs.Pieces.{Text}
 use Rattle.fvn_syntax.specs.Texts.{place, or_end, place_or_end}
 use Rattle.fvn_syntax.specs.Names.{first_args, arity_of}

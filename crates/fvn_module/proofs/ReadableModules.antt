@@ -7,8 +7,8 @@ use Rattle.fvn_lex.specs.Cut.{Piece}
 use Rattle.fvn_lex.specs.Join.{IsPiece}
 use Rattle.fvn_terms.specs.declared.plain.OpId.{OpId}
 use Rattle.fvn_forms.specs.Good.{IsGood}
-use Rattle.fvn_signature.specs.Collected.{completed}
 use Rattle.fvn_signature.specs.Queries.{IsCompleted}
+use Rattle.fvn_signature_draft.specs.Collected.{completed}
 use Rattle.fvn_syntax.specs.Pieces.{Text}
 use Rattle.fvn_syntax.specs.Names.{arity_of}
 use Rattle.fvn_module_syntax.specs.declared.form.Form.{Form}

@@ -8,8 +8,8 @@ use Rattle.fvn_terms.specs.declared.plain.SortId.{SortId}
 use Rattle.fvn_terms.specs.declared.declarations.Declarations.{Declarations}
 use Rattle.fvn_terms.specs.Signature.{kind, IsSort}
 use Rattle.fvn_forms.specs.Good.{IsGood}
-use Rattle.fvn_signature.specs.Collected.{op_number, declarations_of, operator_meant, kinds, completed}
 use Rattle.fvn_signature.specs.Queries.{IsCompleted}
+use Rattle.fvn_signature_draft.specs.Collected.{op_number, declarations_of, operator_meant, kinds, completed}
 use Rattle.fvn_syntax.specs.Pieces.{Text}
 use Rattle.fvn_syntax.specs.Texts.{place}
 use Rattle.fvn_syntax.specs.Names.{resolve_sort}

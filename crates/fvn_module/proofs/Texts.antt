@@ -7,8 +7,8 @@ use Rattle.fvn_lex.specs.Cut.{Piece}
 use Rattle.fvn_lex.specs.Parts.{HasPieces, IsFirstFault}
 use Rattle.fvn_lex.proofs.RowPieces.{pieces-once, no-pieces}
 use Rattle.fvn_base.specs.declared.limits.TheConstants.{SORTS, OPERATORS}
-use Rattle.fvn_signature.specs.declared.collected.Collected.{Collected}
-use Rattle.fvn_signature.specs.Tops.{tops}
+use Rattle.fvn_signature_draft.specs.declared.collected.Collected.{Collected}
+use Rattle.fvn_signature_draft.specs.Tops.{tops}
 use Rattle.fvn_sorts.specs.declared.conditions.fault.SigFault.{SigFault}
 use Rattle.fvn_sorts.specs.Faults.{IsTooLarge, IsFirstFault as IsFirstSignatureFault}
 use Rattle.fvn_sorts.specs.declared.conditions.fault.SigFault.TheVariants as sig

@@ -3,7 +3,7 @@ use Rattle.std.specs.Prelude.{◌≡◌, ◌≤◌, ◌⊎◌, List, length}
 use Rattle.fvn_lex.specs.Cut.{Piece}
 use Rattle.fvn_lex.specs.Parts.{HasPieces}
 use Rattle.fvn_base.specs.declared.limits.TheConstants.{EQUATIONS}
-use Rattle.fvn_signature.specs.Collected.{completed}
+use Rattle.fvn_signature_draft.specs.Collected.{completed}
 use Rattle.fvn_sorts.specs.Faults.{HasNoFault}
 use Rattle.fvn_syntax.specs.Pieces.{Text}
 use Rattle.fvn_syntax.specs.Scope.{Scope}

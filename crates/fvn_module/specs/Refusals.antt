@@ -4,8 +4,8 @@ use Rattle.fvn_lex.specs.Cut.{Piece}
 use Rattle.fvn_lex.specs.Parts.{HasPieces, IsFirstFault as IsFirstLexFault}
 use Rattle.fvn_base.specs.declared.limits.TheConstants.{EQUATIONS}
 use Rattle.fvn_terms.specs.declared.plain.SortId.{SortId}
-use Rattle.fvn_signature.specs.declared.collected.Collected.{Collected}
-use Rattle.fvn_signature.specs.Tops.{tops}
+use Rattle.fvn_signature_draft.specs.declared.collected.Collected.{Collected}
+use Rattle.fvn_signature_draft.specs.Tops.{tops}
 use Rattle.fvn_sorts.specs.declared.conditions.fault.SigFault.{SigFault}
 use Rattle.fvn_sorts.specs.declared.conditions.fault.SigFault.TheVariants.{TooMany as TooManyThings}
 use Rattle.fvn_sorts.specs.Faults.{HasNoFault, IsFirstFault as IsFirstSignatureFault}

@@ -6,9 +6,9 @@ use Rattle.std.proofs.lemmas.Map.Views.{Contains-from_any}
 use Rattle.fvn_base.specs.declared.limits.TheConstants.{SORTS, OPERATORS}
 use Rattle.fvn_base.proofs.Membership.{contains_none}
 use Rattle.fvn_terms.specs.declared.plain.SortId.{SortId}
-use Rattle.fvn_signature.specs.declared.collected.Declaration.{Declaration}
-use Rattle.fvn_signature.specs.declared.collected.Collected.{Collected}
-use Rattle.fvn_signature.specs.Collected.{IsClosed, Names, op_number}
+use Rattle.fvn_signature_draft.specs.declared.collected.Declaration.{Declaration}
+use Rattle.fvn_signature_draft.specs.declared.collected.Collected.{Collected}
+use Rattle.fvn_signature_draft.specs.Collected.{IsClosed, Names, op_number}
 use Rattle.fvn_sorts.specs.Faults.{IsTooLarge}
 use Rattle.fvn_sorts.proofs.CollectedSteps.{one_declaration_more}
 use Rattle.fvn_syntax.specs.Pieces.{Text}

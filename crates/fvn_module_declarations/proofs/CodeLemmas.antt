@@ -11,9 +11,9 @@ use Rattle.fvn_terms.specs.declared.declarations.Axioms.{Axioms}
 use Rattle.fvn_terms.specs.declared.declarations.Axioms.TheVariants.{Free, Comm, AssocComm, AssocCommId}
 use Rattle.fvn_forms.specs.SortOrder.{sort_number, same_sort}
 use Rattle.fvn_forms.proofs.SortTests.{same_sort-true, same_sort-self}
-use Rattle.fvn_signature.specs.declared.collected.Declaration.{Declaration}
-use Rattle.fvn_signature.specs.Collected.{op_number, same_op}
-use Rattle.fvn_signature.proofs.Parts.{same_tests}
+use Rattle.fvn_signature.proofs.FirstSorts.{same_tests}
+use Rattle.fvn_signature_draft.specs.declared.collected.Declaration.{Declaration}
+use Rattle.fvn_signature_draft.specs.Collected.{op_number, same_op}
 use Rattle.fvn_syntax.specs.Texts.{place}
 use Rattle.fvn_syntax.proofs.TextLemmas.{position-any}
 use Rattle.fvn_module_declarations.specs.Operators.{alike, same_sorts, same_axioms, same_declaration}

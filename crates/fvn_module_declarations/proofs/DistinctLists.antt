@@ -9,7 +9,7 @@ use Rattle.fvn_terms.specs.declared.plain.SortId.{SortId}
 use Rattle.fvn_base.proofs.Membership.{contains_here, contains_later, contains_cases, contains_none, contains_map}
 use Rattle.fvn_forms.specs.SortOrder.{sort_number, same_sort}
 use Rattle.fvn_forms.proofs.SortTests.{same_sort-true, same_sort-self}
-use Rattle.fvn_signature.specs.declared.collected.Collected.{Collected}
+use Rattle.fvn_signature_draft.specs.declared.collected.Collected.{Collected}
 use Rattle.fvn_module_names.specs.Order.{same_pair, with_new, with_all, crossed}
 use Rattle.fvn_module_declarations.specs.inner.Pairs.{with_more, row}
 use Rattle.fvn_module_names.proofs.NewLists.{with_all-append, with_all_contains}

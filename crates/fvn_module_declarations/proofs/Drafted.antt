@@ -6,8 +6,8 @@ use Rattle.std.proofs.lemmas.List.{append_assoc, length-append, length-set, get_
 use Rattle.fvn_base.specs.declared.limits.TheConstants.{OPERATORS}
 use Rattle.fvn_terms.specs.declared.plain.OpId.{OpId}
 use Rattle.fvn_terms.specs.declared.declarations.Axioms.{Axioms}
-use Rattle.fvn_signature.specs.declared.collected.Declaration.{Declaration}
-use Rattle.fvn_signature.specs.Collected.{op_number, same_op}
+use Rattle.fvn_signature_draft.specs.declared.collected.Declaration.{Declaration}
+use Rattle.fvn_signature_draft.specs.Collected.{op_number, same_op}
 use Rattle.fvn_syntax.specs.Pieces.{Text}
 use Rattle.fvn_syntax.specs.Texts.{place_or_end, with_text}
 use Rattle.fvn_module_syntax.specs.declared.statement.RawRank.{RawRank}

@@ -8,7 +8,7 @@ use Rattle.std.proofs.lemmas.List.Folds.{list_any-append, Any-from_list_any, lis
 use Rattle.std.proofs.lemmas.Map.Views.{Contains-from_any}
 use Rattle.fvn_base.proofs.Membership.{contains_cases, contains_none}
 use Rattle.fvn_base.specs.declared.limits.TheConstants.{SORTS, OPERATORS, ARGUMENTS}
-use Rattle.fvn_signature.specs.declared.collected.Declaration.{Declaration}
+use Rattle.fvn_signature_draft.specs.declared.collected.Declaration.{Declaration}
 use Rattle.fvn_syntax.specs.Pieces.{Text}
 use Rattle.fvn_sorts.specs.Faults.{IsTooLarge}
 use Rattle.fvn_module_syntax.specs.declared.statement.RawRank.{RawRank}

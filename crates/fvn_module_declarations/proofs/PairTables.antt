@@ -6,7 +6,7 @@ use Rattle.std.proofs.lemmas.List.{length-set, get_or-set_same, get_or-set_other
 use Rattle.std.proofs.lemmas.List.Folds.{list_any-append}
 use Rattle.fvn_base.specs.declared.limits.TheConstants.{SORTS}
 use Rattle.fvn_forms.specs.SortOrder.{sort_number}
-use Rattle.fvn_signature.specs.declared.collected.Collected.{Collected}
+use Rattle.fvn_signature_draft.specs.declared.collected.Collected.{Collected}
 use Rattle.fvn_module_names.specs.Order.{same_pair}
 use Rattle.fvn_module_declarations.specs.inner.Pairs.{IsTableOf}
 

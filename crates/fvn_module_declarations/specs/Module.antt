@@ -1,6 +1,6 @@
 -- What a module declares: its names, and what its signature is made of.
 use Rattle.std.specs.Prelude.{List, [], length}
-use Rattle.fvn_signature.specs.declared.collected.Collected.{Collected}
+use Rattle.fvn_signature_draft.specs.declared.collected.Collected.{Collected}
 use Rattle.fvn_syntax.specs.declared.names.Names.{Names}
 use Rattle.fvn_module_syntax.specs.declared.statement.Statement.{Statement}
 use Rattle.fvn_module_syntax.specs.declared.form.Form.{Form}

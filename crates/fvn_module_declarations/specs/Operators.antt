@@ -7,8 +7,8 @@ use Rattle.fvn_terms.specs.declared.declarations.Axioms.{Axioms}
 use Rattle.fvn_terms.specs.declared.declarations.Axioms.TheVariants.{Free, Comm, AssocComm, AssocCommId}
 use Rattle.fvn_terms.specs.declared.declarations.Rank.{Rank}
 use Rattle.fvn_forms.specs.SortOrder.{same_sort}
-use Rattle.fvn_signature.specs.declared.collected.Declaration.{Declaration}
-use Rattle.fvn_signature.specs.Collected.{same_op, first_kind_number}
+use Rattle.fvn_signature_draft.specs.declared.collected.Declaration.{Declaration}
+use Rattle.fvn_signature_draft.specs.Collected.{same_op, first_kind_number}
 use Rattle.fvn_syntax.specs.Pieces.{Text}
 use Rattle.fvn_syntax.specs.Texts.{place_or_end}
 use Rattle.fvn_syntax.specs.declared.sorts.RawSort.{RawSort}

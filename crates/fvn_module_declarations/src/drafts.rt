@@ -1,7 +1,7 @@
 //! Declarations of operators as they are collected, each once.
 ghost use Rattle.std.specs.Prelude.{◌≡◌, ◌<◌, ◌≤◌, false, [], map, length, replicate, All, IfOk, slice_index_or, slice_set, None};
 ghost use Rattle.fvn_base.specs.declared.limits.TheConstants.{SORTS as MOST_SORTS, OPERATORS as MOST};
-ghost use Rattle.fvn_signature.specs.Collected.{Names};
+ghost use Rattle.fvn_signature_draft.specs.Collected.{Names};
 ghost use Rattle.fvn_syntax.specs.Texts.{with_text};
 ghost use Rattle.fvn_module_names.specs.Names.{operators_in, with_texts, with_names as with_all_names};
 ghost use Rattle.fvn_module_declarations.specs.Operators.{or_else, or_free};

@@ -31,7 +31,7 @@ pub struct PairBuilder {
 }
 
 impl Model for PairBuilder {
-    ghost use Rattle.fvn_signature.specs.declared.collected.Collected.{Collected};
+    ghost use Rattle.fvn_signature_draft.specs.declared.collected.Collected.{Collected};
     ghost use Rattle.fvn_module_declarations.specs.inner.Pairs.{IsTableOf};
 
     ghost Value = { Collected };

@@ -6,9 +6,10 @@ use Rattle.std.proofs.lemmas.List.{get_or-set_same, get_or-set_other, get_or-rep
 use Rattle.std.proofs.lemmas.List.Elements.{All-push, All-weaker}
 use Rattle.fvn_terms.specs.declared.plain.SortId.{SortId}
 use Rattle.fvn_forms.specs.SortOrder.{sort_number}
-use Rattle.fvn_signature.specs.declared.collected.Collected.{Collected}
-use Rattle.fvn_signature.specs.Collected.{joins, first_joined, first_sorts, parts_before, kind_of}
-use Rattle.fvn_signature.proofs.Parts.{first_joined-at, first_joined-same, kind_of-first, kind_of-later, kinds-length, kinds-at, kinds-more}
+use Rattle.fvn_signature.specs.FirstSorts.{first_sorts}
+use Rattle.fvn_signature_draft.specs.declared.collected.Collected.{Collected}
+use Rattle.fvn_signature_draft.specs.Collected.{joins, first_joined, parts_before, kind_of}
+use Rattle.fvn_signature_draft.proofs.Parts.{first_joined-at, first_joined-same, kind_of-first, kind_of-later, kinds-length, kinds-at, kinds-more}
 use Rattle.fvn_module_names.specs.inner.Classes.{label}
 use Rattle.fvn_module_names.specs.inner.Numbering.{HasLabels, IsKnown, IsNumbered}
 

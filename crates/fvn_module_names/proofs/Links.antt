@@ -3,9 +3,9 @@ use Rattle.std.proofs.Common.{List, []}
 use Rattle.std.specs.List.{Contains}
 use Rattle.fvn_terms.specs.declared.plain.SortId.{SortId}
 use Rattle.fvn_forms.proofs.SortTests.{reaches-self, reaches-trans}
-use Rattle.fvn_signature.specs.declared.collected.Collected.{Collected}
-use Rattle.fvn_signature.specs.Collected.{both_ways}
-use Rattle.fvn_signature.proofs.Parts.{joins-sym, joins-below}
+use Rattle.fvn_signature_draft.specs.declared.collected.Collected.{Collected}
+use Rattle.fvn_signature_draft.specs.Collected.{both_ways}
+use Rattle.fvn_signature_draft.proofs.Parts.{joins-sym, joins-below}
 use Rattle.fvn_module_names.specs.inner.Joining.{AreLinked}
 
 module _ (ps : List (SortId × SortId)) where

@@ -8,8 +8,8 @@ use Rattle.fvn_terms.specs.declared.plain.SortId.{SortId}
 use Rattle.fvn_base.proofs.Membership.{map_contains}
 use Rattle.fvn_forms.specs.SortOrder.{sort_number, same_sort}
 use Rattle.fvn_forms.proofs.SortTests.{same_sort-true, reaches-sound}
-use Rattle.fvn_signature.specs.Collected.{both_ways, turned, joins}
-use Rattle.fvn_signature.proofs.Parts.{same_tests}
+use Rattle.fvn_signature.proofs.FirstSorts.{same_tests}
+use Rattle.fvn_signature_draft.specs.Collected.{both_ways, turned, joins}
 use Rattle.fvn_syntax.specs.Pieces.{Text}
 use Rattle.fvn_module_syntax.specs.declared.statement.Statement.{Statement}
 use Rattle.fvn_module_names.specs.Order.{same_pair, with_all, pairs_in, with_pairs, ordered}

@@ -1,7 +1,7 @@
 //! The numbers of kinds.
 ghost use Rattle.std.specs.Prelude.{◌≡◌, ◌<◌, ◌≤◌, ◌+◌, ◌*◌, map, length, All, IfOk};
 ghost use Rattle.fvn_forms.specs.SortOrder.{sort_number};
-ghost use Rattle.fvn_signature.specs.declared.collected.Collected.{Collected};
+ghost use Rattle.fvn_signature_draft.specs.declared.collected.Collected.{Collected};
 ghost use Rattle.fvn_module_names.specs.Order.{kinds_of};
 ghost use Rattle.fvn_module_names.specs.inner.Numbering.{HasLabels, IsNumbered};
 

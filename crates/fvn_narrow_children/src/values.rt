@@ -7,6 +7,7 @@ ghost use Rattle.fvn_flat.specs.Bindings.{value, BindingsFit};
 ghost use Rattle.fvn_flat.specs.Fits.{Fits, AllFit};
 ghost use Rattle.fvn_flat.specs.Solving.{substitution};
 ghost use Rattle.fvn_rewrite.specs.Usable.{equations_by};
+ghost use Rattle.fvn_narrow_children.specs.inner.Binding.{bound_variables};
 ghost use Rattle.fvn_narrow_children.specs.Values.{AreValuesUnder, IsLargeValue, ReducibleAs, AreIrreducible, HaveReducible, AreReducibleAs};
 
 use fvn_cover::Variant;
@@ -36,7 +37,24 @@ pub(crate) fn instances(
     Ok(us)
 }
 
-// The values of the variant's variables under the substitution.
+// Whether the pairs are of just these variables, in their order.
+fn binds_just(s: &Subst, vars: &[Var]) -> bool
+    ensures { IsTrue result → bound_variables s.now ≡ vars.now }
+{
+    let count = vars.len();
+    if s.len() != count {
+        return false;
+    }
+    for i in 0..count {
+        let (x, _) = s.pair(i);
+        if x != vars[i] {
+            return false;
+        }
+    }
+    true
+}
+
+// The values of the variant's variables under the substitution. Where the variant binds just these, no pair is left out.
 pub(crate) fn values_under(
     alloc: Global,
     sig: &Signature,
@@ -47,6 +65,11 @@ pub(crate) fn values_under(
     requires subst { BindingsFit sig.now s.now }
     ensures { IfOk result (AreValuesUnder sig.now v.now s.now) }
 {
+    let just = binds_just(&v.subst, v.vars.as_slice());
+    if just {
+        let changed = v.subst.changed_by(alloc, sig, s)?;
+        return Ok(changed);
+    }
     let all = v.subst.compose(alloc, sig, s)?;
     let own = all.restrict(alloc, v.vars.as_slice())?;
     Ok(own)

@@ -2,6 +2,6 @@
 mod Measures
 pub mod PathFacts
 pub mod ClashFacts
-mod SumClashes
+pub mod SumClashes
 pub mod Replacing
 mod Arguments

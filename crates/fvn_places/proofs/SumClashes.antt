@@ -65,11 +65,11 @@ twice_one x y (p ∷ r ∷ l) e =
     absurd (omega (arith, a, b, c, n))
 
 module _ (d : Declarations) where
-  abbrev instance : Substitution → FlatTerm → FlatTerm
+  abbrev pub instance : Substitution → FlatTerm → FlatTerm
   instance s t = canon d (apply s (plain t))
 
   -- the summands under f of instances
-  abbrev summands : OpId → Substitution → List FlatTerm → List FlatTerm
+  abbrev pub summands : OpId → Substitution → List FlatTerm → List FlatTerm
   summands f s ts = all_parts d f (map (instance s) ts)
 
   sum_args : (f : OpId) (l : List FlatTerm) → 2 ≤ length l → args_of (sum d f l) ≡ sort l
@@ -80,7 +80,7 @@ module _ (d : Declarations) where
       go (a ∷ []) n = absurd (omega arith)
       go (a ∷ b ∷ m) n = funpack-fpack (a ∷ b ∷ m)
 
-  instances_settled : (s : Substitution) (l : List FlatTerm) → AllByRecursion (Settled d) (map (instance s) l)
+  pub instances_settled : (s : Substitution) (l : List FlatTerm) → AllByRecursion (Settled d) (map (instance s) l)
   instances_settled s [] = tt
   instances_settled s (t ∷ l) = (canon_settled d (apply s (plain t)), instances_settled s l)
 
@@ -98,7 +98,7 @@ module _ (d : Declarations) where
   not_unjoined (AssocCommId o) t l h e = cc
 
   -- the arguments of a sum's instance
-  args_of_instance : (f : OpId) → IsAssociative (axioms d f) → identity (axioms d f) ≡ None → (t : FlatTerm) → Settled d t → head_of t ≡ Some f → 2 ≤ length (args_of t) → (s : Substitution) → args_of (instance s t) ≡ sort (summands f s (args_of t))
+  pub args_of_instance : (f : OpId) → IsAssociative (axioms d f) → identity (axioms d f) ≡ None → (t : FlatTerm) → Settled d t → head_of t ≡ Some f → 2 ≤ length (args_of t) → (s : Substitution) → args_of (instance s t) ≡ sort (summands f s (args_of t))
   args_of_instance f assoc lasting (fvar x) h e two s = cc
   args_of_instance f assoc lasting (fapp g true fnone) h e two s = absurd (omega (arith, two))
   args_of_instance f assoc lasting (fapp g true (fmore t ts)) h e two s =
@@ -207,7 +207,7 @@ module _ (d : Declarations) where
     no_sums ts us hs ks s c same (inr (inl x)) = exceeding us ts ks hs c s (sym same) x
     no_sums ts us hs ks s c same (inr (inr x)) = one_twice ts us hs ks s c same x
 
-  args_settled : (t : FlatTerm) → Settled d t → AllByRecursion (Settled d) (args_of t)
+  pub args_settled : (t : FlatTerm) → Settled d t → AllByRecursion (Settled d) (args_of t)
   args_settled (fvar x) h = tt
   args_settled (fapp g joined ts) h = SettledAll-funpack d ts h.1
 

@@ -23,7 +23,7 @@ use Rattle.fvn_flat.specs.Problems.{IsProblem}
 use Rattle.fvn_flat.specs.Partitions.{HasNoIdentity}
 use Rattle.fvn_flat.specs.SolvedLists.{IsKindUnifier}
 use Rattle.fvn_combine_nodes.specs.Table.{IsOver, IsTableOf, term_at}
-use Rattle.fvn_combine_nodes.specs.Questions.{IsStart}
+use Rattle.fvn_combine_tree.specs.Questions.{IsStart}
 use Rattle.fvn_combine_nodes.specs.Unifiers.{value_at, kernel, Partitions}
 use Rattle.fvn_combine_nodes.specs.declared.state.State.{State}
 use Rattle.fvn_combine_nodes.specs.declared.table.Node.{Node}

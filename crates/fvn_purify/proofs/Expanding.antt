@@ -8,9 +8,9 @@ use Rattle.std.proofs.lemmas.List.Elements.{All-contains, Contains-append_cases}
 use Rattle.fvn_base.proofs.Membership.{contains_none, contains_cases, contains_map, map_contains}
 use Rattle.fvn_terms.specs.declared.declarations.Declarations.{Declarations}
 use Rattle.fvn_combine_nodes.specs.States.{IsClosed, class_of, open_pairs}
-use Rattle.fvn_combine_nodes.specs.Questions.{IsAnswer, AreAnswers}
+use Rattle.fvn_combine_tree.specs.Questions.{IsAnswer, AreAnswers}
 use Rattle.fvn_combine_nodes.specs.declared.state.State.{State}
-use Rattle.fvn_combine_nodes.specs.declared.asking.Answers.{Answers}
+use Rattle.fvn_combine_tree.specs.declared.asking.Answers.{Answers}
 use Rattle.fvn_combine_nodes.proofs.Lists.{all_from}
 use Rattle.fvn_purify.specs.Parts.{Outline}
 use Rattle.fvn_purify.specs.Splits.{AreHeadsOfParts, AreWaysOfPairs}

@@ -3,7 +3,7 @@ use Rattle.std.proofs.Common.{◌≡◌, ℕ, suc, ◌+◌, ◌-◌, ◌*◌, �
 use Rattle.std.proofs.Math.Nat.{one-le-pow, mul-lt-mul_of_pos_right, add-mul}
 use Rattle.std.proofs.lemmas.Grind.{pow_more}
 use Rattle.std.proofs.lemmas.List.Sums.{sum_by-cons}
-use Rattle.fvn_combine_nodes.proofs.Powers.{powers_fall}
+use Rattle.fvn_combine_tree.proofs.Powers.{powers_fall}
 
 -- what each of several weighs, as often as there are some
 pub sum_by-same : {A B : Type 0} (weight : B → ℕ) (f : A → B) (w : ℕ) → ((x : A) → weight (f x) ≡ w) → (xs : List A) → sum_by weight (map f xs) ≡ length xs * w

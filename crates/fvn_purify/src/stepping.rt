@@ -1,8 +1,8 @@
 //! Steps: a question that is asked, one more head, one more way, or a split.
 ghost use Rattle.std.specs.Prelude.{◌≡◌, ◌<◌, ◌++◌, [], ◌∷◌, length, map, IfOk, OnOk, All};
 ghost use Rattle.fvn_combine_nodes.specs.States.{IsClosed, IsOpen, class_of};
-ghost use Rattle.fvn_combine_nodes.specs.Questions.{AreAnswers};
-ghost use Rattle.fvn_combine_nodes.specs.declared.asking.Answers.{Answers};
+ghost use Rattle.fvn_combine_tree.specs.Questions.{AreAnswers};
+ghost use Rattle.fvn_combine_tree.specs.declared.asking.Answers.{Answers};
 ghost use Rattle.fvn_purify.specs.Parts.{outline};
 ghost use Rattle.fvn_purify.specs.Splits.{number_in};
 ghost use Rattle.fvn_purify.specs.inner.Options.{IsForcedWay, IsWayOptions};
@@ -14,7 +14,8 @@ use crate::heading::head_options;
 use crate::questions::{first_arguments, question};
 use crate::split::Split;
 use fvn_base::Seq;
-use fvn_combine_nodes::{Answers, State, ask};
+use fvn_combine_nodes::State;
+use fvn_combine_tree::{Answers, ask};
 use fvn_signature::Signature;
 use fvn_terms::NoMemory;
 use std::alloc::Global;

@@ -6,6 +6,7 @@ mod Steps
 mod Sorts
 mod Tried
 mod Parts
+mod Greatest
 mod InOrder
 pub mod VariablesListed
 mod Resorted

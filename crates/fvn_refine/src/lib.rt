@@ -2,6 +2,7 @@
 #![tactic(auto)]
 
 mod arguments;
+mod direct;
 mod laws;
 mod lowering;
 mod ordering;

@@ -44,7 +44,7 @@ fn is_associative(sig: &Signature, f: OpId) -> bool
 }
 
 // Whether the operator takes the terms as summands.
-fn is_sum(sig: &Signature, f: OpId, ts: &[Flat]) -> bool
+pub(crate) fn is_sum(sig: &Signature, f: OpId, ts: &[Flat]) -> bool
     ensures yes { IsTrue result → (IsAssociative (axioms sig.now f) × (1 ≤ length ts.now)) }
     ensures no { result ≡ false → IsAssociative (axioms sig.now f) → ts.now ≡ [] }
 {
@@ -55,7 +55,7 @@ fn is_sum(sig: &Signature, f: OpId, ts: &[Flat]) -> bool
 }
 
 // The two sorts of the row, where there are two.
-fn pair_of(row: &[SortId]) -> Option<(SortId, SortId)>
+pub(crate) fn pair_of(row: &[SortId]) -> Option<(SortId, SortId)>
     ensures { MatchOption result (length row.now ≡ 2 → ⊥) (λ pair. row.now ≡ pair.0 ∷ pair.1 ∷ []) }
 {
     if row.len() != 2 {

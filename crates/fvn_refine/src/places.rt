@@ -20,7 +20,7 @@ pub(crate) fn beside(vars: &[Var], row: &[SortId], y: Var, s: SortId) -> SortId
 }
 
 // Whether the variables are one.
-fn is_same(x: Var, y: Var) -> bool
+pub(crate) fn is_same(x: Var, y: Var) -> bool
     ensures { IsTrue result ↔ (x ≡ y) }
 {
     x == y

@@ -6,6 +6,7 @@ ghost use Rattle.fvn_refine.specs.Refinements.{AreBound, AreRefinements, HasNoWa
 ghost use Rattle.fvn_refine.specs.inner.Rows.{HasAbove};
 ghost use Rattle.fvn_refine.specs.inner.Found.{AreRows, Finds, IsUnder, HaveSorts};
 
+use crate::direct::greatest;
 use crate::lowering::Search;
 use crate::ordering::all_in_place;
 use crate::resorting::all_resorted;
@@ -21,7 +22,7 @@ use std::alloc::Global;
 fn kinds(alloc: Global, sig: &Signature, vars: &[Var]) -> Result<Vec<SortId>, NoMemory>
     ensures { IfOk result (λ row. row.items ≡ map (λ x. kind sig.now x.sort) vars.now) }
 {
-    let mut row = Vec::new(alloc);
+    let mut row = Vec::with_capacity(alloc, vars.len())?;
     for x in vars {
         row.push(sig.kind(x.sort))?;
     }
@@ -51,8 +52,8 @@ fn lower_value(
     }
 }
 
-// The largest rows at which each of the variables has a value of its sort.
-fn largest(search: &Search, subst: &Subst, vars: &[Var]) -> Result<Vec<Seq<SortId>>, NoMemory>
+// The largest rows at which each of the variables has a value of its sort, of all that are below the row of kinds.
+fn all_largest(search: &Search, subst: &Subst, vars: &[Var]) -> Result<Vec<Seq<SortId>>, NoMemory>
     requires fits { BindingsFit search.now.sig.now subst.now }
     requires bound { AreBound search.now.sig.now vars.now subst.now }
     ensures { let d = search.now.sig.now in let xs = search.now.vars.now in
@@ -65,6 +66,27 @@ fn largest(search: &Search, subst: &Subst, vars: &[Var]) -> Result<Vec<Seq<SortI
         rows = lower_value(search, rows, subst, *x)?;
     }
     Ok(rows)
+}
+
+// The largest rows at which each of the variables has a value of its sort: one alone where it is found without a search.
+fn largest(search: &Search, subst: &Subst, vars: &[Var]) -> Result<Vec<Seq<SortId>>, NoMemory>
+    requires fits { BindingsFit search.now.sig.now subst.now }
+    requires bound { AreBound search.now.sig.now vars.now subst.now }
+    ensures { let d = search.now.sig.now in let xs = search.now.vars.now in
+        IfOk result (λ rows. Finds d xs (HaveSorts d xs subst.now vars.now) rows.items) }
+{
+    let start = kinds(search.alloc, search.sig, search.vars)?;
+    match greatest(search, start, subst, vars) {
+        Some(row) => {
+            let mut rows = Vec::new(search.alloc);
+            rows.push(Seq::from_vec(row))?;
+            Ok(rows)
+        }
+        None => {
+            let rows = all_largest(search, subst, vars)?;
+            Ok(rows)
+        }
+    }
 }
 
 /// The substitution once for each maximal way to put sorts on its variables such that each of the listed variables

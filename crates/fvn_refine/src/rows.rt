@@ -17,7 +17,7 @@ pub(crate) fn is_at_or_below(sig: &Signature, s: SortId, q: SortId) -> bool
 }
 
 // Whether each sort of the row is at or below the one in its place.
-fn is_row_below(sig: &Signature, row: &[SortId], other: &[SortId]) -> bool
+pub(crate) fn is_row_below(sig: &Signature, row: &[SortId], other: &[SortId]) -> bool
     ensures { result ≡ is_row_below sig.now row.now other.now }
 {
     if row.len() != other.len() {
@@ -113,7 +113,7 @@ pub(crate) fn with_rows(
 pub(crate) fn copied(alloc: Global, row: &[SortId]) -> Result<Vec<SortId>, NoMemory>
     ensures { IfOk result (λ copy. copy.items ≡ row.now) }
 {
-    let mut copy = Vec::new(alloc);
+    let mut copy = Vec::with_capacity(alloc, row.len())?;
     for s in row {
         copy.push(*s)?;
     }

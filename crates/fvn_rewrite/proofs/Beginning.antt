@@ -1,5 +1,5 @@
 -- What a first pass needs of the rules, and where turns from the root begin.
-use Rattle.std.proofs.Common.{◌≡◌, ℕ, sym, subst, arith}
+use Rattle.std.proofs.Common.{◌≡◌, ◌+◌, ℕ, sym, subst, arith}
 use Rattle.fvn_terms.specs.declared.declarations.Declarations.{Declarations}
 use Rattle.fvn_terms.specs.Theory.{Equations}
 use Rattle.fvn_terms.specs.Laws.{RewritingIsLawful}
@@ -14,7 +14,8 @@ use Rattle.fvn_rewrite_laws.specs.Normalised.{IsReached}
 use Rattle.fvn_rewrite.specs.Usable.{AreUsable}
 use Rattle.fvn_rewrite.specs.inner.Making.{AreStepRules, IsBegun}
 use Rattle.fvn_rewrite.specs.declared.quick.Begun.{Begun}
-use Rattle.fvn_rewrite.proofs.Reaching.{reached_itself}
+use Rattle.fvn_rewrite.specs.inner.Walking.{IsNext}
+use Rattle.fvn_rewrite.proofs.Reaching.{reached_itself, reached_more}
 use Rattle.fvn_rewrite.proofs.Roots.{have_one_kind, is_rule, sides_fit}
 
 -- usable rules have what the pass needs
@@ -28,6 +29,10 @@ lawful d lists usable good completed rules rewriting sequences kinds = record {
   kinds = kinds d good.fits (equations_of lists.equations) (have_one_kind d lists usable);
 }
 
--- the form itself, with all steps left
-pub begun_itself : (d : Declarations) (equations : Equations) (t : FlatTerm) (steps : ℕ) (begun : Begun) → Fits d t → begun.form ≡ t → begun.left ≡ steps → IsBegun d equations t steps begun
-begun_itself d equations t steps begun fits is left = record { count = 0; spent = omega (arith, left); reached = subst (IsReached d equations 0 t) (sym is) (reached_itself d equations t fits) }
+-- what one step leads to, with one step less
+pub begun_next : (d : Declarations) (equations : Equations) → RewritingIsLawful → (t next : FlatTerm) (steps : ℕ) (begun : Begun) → Fits d t → IsNext d equations t next → begun.form ≡ next → begun.left + 1 ≡ steps → IsBegun d equations t steps begun
+begun_next d equations laws t next steps begun fits step is left = record {
+  count = 0 + 1;
+  spent = omega (arith, left);
+  reached = subst (IsReached d equations (0 + 1) t) (sym is) (reached_more d equations laws 0 t t next (reached_itself d equations t fits) step);
+}

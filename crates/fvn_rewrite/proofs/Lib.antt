@@ -12,3 +12,4 @@ mod InsideOut
 mod Seen
 mod Beginning
 mod Trying
+mod Repeated

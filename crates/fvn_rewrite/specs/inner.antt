@@ -1,5 +1,6 @@
 -- What mirrors the code.
 pub mod Trying
+pub mod Twins
 pub mod Walking
 pub mod Testing
 pub mod Turns

@@ -10,6 +10,7 @@ mod root;
 mod shared;
 mod stepping;
 mod testing;
+mod twins;
 mod walking;
 
 pub use normalising::normal;

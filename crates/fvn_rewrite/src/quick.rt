@@ -1,9 +1,10 @@
 //! Where turns from the root begin: a first pass from the inside out goes before them.
-ghost use Rattle.std.specs.Prelude.{IfOk, IfSome};
+ghost use Rattle.std.specs.Prelude.{◌<◌, IfOk, IfSome};
 ghost use Rattle.fvn_flat.specs.Fits.{Fits};
 ghost use Rattle.fvn_theory.specs.Equations.{equations_of};
 ghost use Rattle.fvn_rewrite.specs.Usable.{AreUsable};
 ghost use Rattle.fvn_rewrite.specs.inner.Making.{AreStepRules, IsBegun};
+ghost use Rattle.fvn_rewrite.specs.inner.Walking.{IsNext};
 
 use crate::making::{Pass, make};
 use fvn_base::limits::DEPTH;
@@ -55,16 +56,19 @@ fn quick(
     }
 }
 
-// Where turns from the root begin: what the pass comes to, or the form itself.
+// Where turns from the root begin: what the pass comes to, or what one step leads to.
 pub(crate) fn begin(
     alloc: Global,
     sig: &Signature,
     rules: &Rules,
     t: &Flat,
+    next: Flat,
     bounds: Bounds,
 ) -> Result<Begun, NoMemory>
     requires term { Fits sig.now t.now }
     requires rules { AreUsable sig.now rules.now }
+    requires next { IsNext sig.now (equations_of rules.now.equations) t.now next }
+    requires some { 0 < bounds.steps }
     ensures { IfOk result (IsBegun sig.now (equations_of rules.now.equations) t.now bounds.steps) }
 {
     sig.recall_good();
@@ -73,16 +77,12 @@ pub(crate) fn begin(
     sequences_are_lawful();
     kinded_theories_are_lawful();
     rules_are_lawful();
-    let large = t.size() > bounds.size;
-    if !large {
-        let made = quick(alloc, sig, rules, t, bounds)?;
-        if let Some(begun) = made {
-            return Ok(begun);
-        }
+    let made = quick(alloc, sig, rules, t, bounds)?;
+    if let Some(begun) = made {
+        return Ok(begun);
     }
-    let form = t.copy(alloc)?;
     Ok(Begun {
-        form,
-        left: bounds.steps,
+        form: next,
+        left: bounds.steps - 1,
     })
 }

@@ -7,6 +7,7 @@ ghost use Rattle.fvn_rewrite.specs.inner.Trying.{SidesFit, AllSidesFit, MatchAs,
 ghost use Rattle.fvn_rewrite.specs.inner.Walking.{RootAs};
 ghost use Rattle.fvn_rewrite.specs.Usable.{AreUsable};
 
+use crate::twins::lacks_twins;
 use fvn_flat::{Flat, Subst};
 use fvn_match::{matches, may_match};
 use fvn_rewrite_coherence::rules_are_coherent;
@@ -17,7 +18,8 @@ use fvn_terms::{NoMemory, OpId};
 use std::alloc::Global;
 use std::slice::from_ref;
 
-// What makes the left side of a rule the form. Where heads tell that there is no such thing, nothing is matched.
+// What makes the left side of a rule the form. Where heads or summands tell that there is no such thing, nothing is
+// matched.
 pub(crate) fn rule_match(
     alloc: Global,
     sig: &Signature,
@@ -30,6 +32,10 @@ pub(crate) fn rule_match(
 {
     let open = may_match(sig, &rule.left, t);
     if !open {
+        return Ok(None);
+    }
+    let lost = lacks_twins(sig, &rule.left, t);
+    if lost {
         return Ok(None);
     }
     let found = matches(alloc, sig, from_ref(&rule.left), from_ref(t))?;

@@ -25,8 +25,8 @@ use Rattle.fvn_forms.specs.LeastSort.{least_sort}
 use Rattle.fvn_forms.proofs.SortOrder.{AtOrBelow-one_kind, AtOrBelow-from_same, kind_is_greatest}
 use Rattle.fvn_forms.proofs.SortTests.{at_or_below-true, at_or_below-complete}
 use Rattle.fvn_forms.proofs.LeastSort.{least_sort_exact}
-use Rattle.fvn_signature.specs.Collected.{first_sorts}
-use Rattle.fvn_signature.proofs.Parts.{contains_first_sorts}
+use Rattle.fvn_signature.specs.FirstSorts.{first_sorts}
+use Rattle.fvn_signature.proofs.FirstSorts.{contains_first_sorts}
 use Rattle.fvn_signature.specs.Queries.{IsCompleted}
 use Rattle.fvn_flat.specs.Rules.{IsIdentity}
 use Rattle.fvn_rewrite_laws.specs.declared.shapes.Root.{Root}

@@ -11,9 +11,9 @@ use Rattle.fvn_forms.specs.Good.{IsGood}
 use Rattle.fvn_base.proofs.Membership.{contains_here, contains_later, contains_cases, contains_none, contains_filter, filter_contains, list_all_gives, list_all_from}
 use Rattle.fvn_forms.proofs.SortOrder.{AtOrBelow-trans, AtOrBelow-one, AtOrBelow-kind, AtOrBelow-from_same, AtOrBelow-antisym, AtOrBelow-one_kind}
 use Rattle.fvn_forms.proofs.SortTests.{same_sort-true, same_sort-self, at_or_below-true, at_or_below-complete}
-use Rattle.fvn_signature.specs.Collected.{first_sorts}
+use Rattle.fvn_signature.specs.FirstSorts.{first_sorts}
 use Rattle.fvn_signature.specs.Queries.{IsKind, IsCompleted, IsMaximalOf, IsBelow, IsDirectSubsort, is_below, is_direct, direct_subsorts}
-use Rattle.fvn_signature.proofs.Parts.{contains_first_sorts, first_sorts_contains}
+use Rattle.fvn_signature.proofs.FirstSorts.{contains_first_sorts, first_sorts_contains}
 
 module _ (d : Declarations) where
   is_below-true : (s q : SortId) → is_below d s q ≡ true → IsBelow d s q

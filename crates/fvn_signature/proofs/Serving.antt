@@ -1,14 +1,8 @@
--- The ranks that serve arguments, one rank or one argument at a time.
-use Rattle.std.proofs.Common.{◌≡◌, suc, ◌≤◌, Bool, false, List, [], ◌∷◌, ◌++◌, map, length, get_or, refl, sym, ap, ◌∙◌, arith, append_assoc}
+-- The arguments that a rank takes, one at a time.
+use Rattle.std.proofs.Common.{◌≡◌, suc, Bool, false, List, [], ◌∷◌, length, refl, ap}
 use Rattle.std.proofs.lemmas.Bool.{and_right}
-use Rattle.std.proofs.lemmas.List.{append-nil, get_or_past}
-use Rattle.fvn_terms.specs.declared.plain.OpId.{OpId}
 use Rattle.fvn_terms.specs.declared.plain.SortId.{SortId}
-use Rattle.fvn_terms.specs.declared.declarations.Rank.{Rank}
-use Rattle.fvn_terms.specs.declared.declarations.OpDecl.{OpDecl}
-use Rattle.fvn_terms.specs.declared.declarations.Declarations.{Declarations}
-use Rattle.fvn_terms.specs.Signature.{declared, unknown}
-use Rattle.fvn_forms.specs.Ranks.{pass_together, kind_rank, swaps, swapped_args, swapped_ranks, ranks_of}
+use Rattle.fvn_forms.specs.Ranks.{pass_together}
 
 -- lists that are not as long do not pass
 pub pass_together-length : (test : SortId → SortId → Bool) (ss qs : List SortId) → (length ss ≡ length qs → ⊥) → pass_together test ss qs ≡ false
@@ -16,26 +10,3 @@ pass_together-length test [] [] h = absurd (h refl)
 pass_together-length test [] (q ∷ qs) h = refl
 pass_together-length test (s ∷ ss) [] h = refl
 pass_together-length test (s ∷ ss) (q ∷ qs) h = and_right (test s q) (pass_together test ss qs) (pass_together-length test ss qs (λ e. h (ap suc e)))
-
--- the swapped ranks, one rank at a time
-pub swapped_ranks-push : (rs : List Rank) (r : Rank) → swapped_ranks (rs ++ r ∷ []) ≡ swapped_ranks rs ++ swapped_args r.args r.result
-swapped_ranks-push [] r = append-nil (swapped_args r.args r.result)
-swapped_ranks-push (t ∷ rs) r = ap (λ l. swapped_args t.args t.result ++ l) (swapped_ranks-push rs r) ∙ sym (append_assoc (swapped_args t.args t.result) (swapped_ranks rs) (swapped_args r.args r.result))
-
-pub swapped_args-other : (ss : List SortId) (r : SortId) → (length ss ≡ 2 → ⊥) → swapped_args ss r ≡ []
-swapped_args-other [] r h = refl
-swapped_args-other (s ∷ []) r h = refl
-swapped_args-other (s ∷ q ∷ []) r h = absurd (h refl)
-swapped_args-other (s ∷ q ∷ u ∷ us) r h = refl
-
-pub swapped_args-two : (ss : List SortId) (r d : SortId) → length ss ≡ 2 → swapped_args ss r ≡ record { args = get_or ss 1 d ∷ get_or ss 0 d ∷ []; result = r } ∷ []
-swapped_args-two [] r d h = absurd (omega arith)
-swapped_args-two (s ∷ []) r d h = absurd (omega arith)
-swapped_args-two (s ∷ q ∷ []) r d h = refl
-swapped_args-two (s ∷ q ∷ u ∷ us) r d h = absurd (omega arith)
-
--- the same for what is left of a list of ranks
-pub ranks_of-unknown : (d : Declarations) (f : OpId) → length d.ops ≤ f.0 → ranks_of d f ≡ []
-ranks_of-unknown d f l =
-    let e : declared d f ≡ unknown = get_or_past d.ops f.0 unknown l in
-    ap (λ (o : OpDecl). (o.ranks ++ map (kind_rank d) o.ranks) ++ swaps o.axioms (o.ranks ++ map (kind_rank d) o.ranks)) e

@@ -1,15 +1,14 @@
 -- What stands in a table of results.
-use Rattle.std.proofs.Common.{◌≡◌, ℕ, ◌<◌, ◌≤◌, ◌⊎◌, List, [], ◌∷◌, ◌++◌, map, length, get_or, inl, inr, true, ltb, sym, ap, subst, ◌∙◌, arith}
-use Rattle.std.proofs.lemmas.Bool.{ltb-true, cases_lt}
-use Rattle.std.proofs.lemmas.List.{get_or_append_left, get_or_push, get_or_past, length_push}
+use Rattle.std.proofs.Common.{◌≡◌, ℕ, ◌<◌, List, [], ◌∷◌, map, length, get_or, true, ltb, sym, ap, subst, ◌∙◌, arith}
+use Rattle.std.proofs.lemmas.Bool.{ltb-true}
 use Rattle.fvn_terms.specs.declared.plain.OpId.{OpId}
 use Rattle.fvn_terms.specs.declared.plain.SortId.{SortId}
 use Rattle.fvn_terms.specs.declared.declarations.Declarations.{Declarations}
 use Rattle.fvn_forms.specs.SortOrder.{sort_number}
 use Rattle.fvn_forms.specs.Ranks.{result}
-use Rattle.fvn_signature.specs.Collected.{first_sorts, op_number}
+use Rattle.fvn_signature.specs.FirstSorts.{first_sorts}
 use Rattle.fvn_signature.specs.Drafts.{IsTable}
-use Rattle.fvn_signature.proofs.Parts.{map_sorts-at, map_sorts-length}
+use Rattle.fvn_signature.proofs.FirstSorts.{map_sorts-at, map_sorts-length}
 
 -- what a look-up finds, at the place and in the list that it was asked for
 pub looked_up : {A : Type 0} (xs ys : List A) (i j : ℕ) (x : A) → xs ≡ ys → i ≡ j → true ≡ ltb i (length xs) → x ≡ get_or xs i x → (j < length ys) × (x ≡ get_or ys j x)
@@ -28,19 +27,3 @@ table-at d f n rows kept i j row s l r m h =
     let is_row : row ≡ map (results (sort_number i)) (first_sorts n) = r ∙ ap (λ l. get_or l i row) e ∙ map_sorts-at (λ a. map (results a) (first_sorts n)) n i row within in
     let wide : length row ≡ n = ap length is_row ∙ map_sorts-length (results (sort_number i)) n in
     h ∙ ap (λ l. get_or l j s) is_row ∙ map_sorts-at (results (sort_number i)) n j s (omega arith)
-
--- the tables, with that of the next operator
-pub more_tables : (d : Declarations) (n : ℕ) (tables : List (List (List SortId))) (rows : List (List SortId)) (k : ℕ) → length tables ≡ k → ((f : OpId) → IsTable d f n (get_or tables f.0 [])) → IsTable d (op_number k) n rows → (f : OpId) → IsTable d f n (get_or (tables ++ rows ∷ []) f.0 [])
-more_tables d n tables rows k long known next f = go (cases_lt f.0 k) where
-  go : (f.0 < k) ⊎ (k ≤ f.0) → IsTable d f n (get_or (tables ++ rows ∷ []) f.0 [])
-  go (inl l) = subst (IsTable d f n) (sym (get_or_append_left tables (rows ∷ []) [] f.0 (omega arith))) (known f)
-  go (inr l) = elim (cases_lt k f.0) [
-    | inl m ↦ λ some. absurd (
-        let past = get_or_past (tables ++ rows ∷ []) f.0 [] (let e = length_push tables rows in omega (arith, e)) in
-        let none : length (get_or (tables ++ rows ∷ []) f.0 []) ≡ 0 = ap length past in
-        omega (arith, some)
-        )
-    | inr m ↦
-        let same : k ≡ f.0 = omega arith in
-        subst (IsTable d f n) (sym (get_or_push tables rows [] f.0 (long ∙ same))) (subst (λ i. IsTable d (op_number i) n rows) same next)
-  ]

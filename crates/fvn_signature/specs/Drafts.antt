@@ -5,11 +5,10 @@ use Rattle.fvn_terms.specs.declared.plain.OpId.{OpId}
 use Rattle.fvn_terms.specs.declared.plain.SortId.{SortId}
 use Rattle.fvn_terms.specs.declared.declarations.Rank.{Rank}
 use Rattle.fvn_terms.specs.declared.declarations.Declarations.{Declarations}
-use Rattle.fvn_terms.specs.Signature.{declared}
 use Rattle.fvn_forms.specs.Good.{IsKinded}
 use Rattle.fvn_forms.specs.Ranks.{ranks_of, result}
-use Rattle.fvn_signature.specs.inner.Words.{IsClosure}
-use Rattle.fvn_signature.specs.Collected.{first_sorts}
+use Rattle.fvn_signature.specs.Words.{IsClosure}
+use Rattle.fvn_signature.specs.FirstSorts.{first_sorts}
 
 -- for each of the first n sorts a row: the results of f over it and each of the first n sorts, as first and second argument
 abbrev pub results_of_two : Declarations → OpId → ℕ → List (List SortId)
@@ -18,14 +17,6 @@ results_of_two d f n = map (λ s. map (λ q. result d f (s ∷ q ∷ [])) (first
 -- no table, or that of all results over two of the first n sorts
 abbrev pub IsTable : Declarations → OpId → ℕ → List (List SortId) → Type 0
 IsTable d f n rows = 0 < length rows → rows ≡ results_of_two d f n
-
--- the two operators have the same axioms and the same declarations
-abbrev pub AreAlike : Declarations → OpId → OpId → Type 0
-AreAlike d f g = declared d f ≡ declared d g
-
--- an earlier operator is so alike
-abbrev pub HasEarlierAlike : Declarations → OpId → Type 0
-HasEarlierAlike d g = (f : OpId) × ((f.0 < g.0) × AreAlike d f g)
 
 -- the words say where the order leads, the ranks are those of each operator, and each table that there is has the results of its operator
 pub record IsDraft (d : Declarations) (n : ℕ) (words_kept : List ℕ) (ranks_kept : List (List Rank)) (tables_kept : List (List (List SortId))) : Type 0 where

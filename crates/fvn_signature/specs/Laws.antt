@@ -1,17 +1,10 @@
 -- Laws of signatures.
-use Rattle.std.specs.Prelude.{◌≡◌, ◌↔◌, ◌<◌, Contains}
+use Rattle.std.specs.Prelude.{◌↔◌, ◌<◌, Contains}
 use Rattle.fvn_terms.specs.declared.plain.SortId.{SortId}
 use Rattle.fvn_terms.specs.declared.declarations.Declarations.{Declarations}
-use Rattle.fvn_terms.specs.Signature.{kind, AtOrBelow}
+use Rattle.fvn_terms.specs.Signature.{AtOrBelow}
 use Rattle.fvn_forms.specs.Good.{IsGood}
-use Rattle.fvn_signature.specs.declared.collected.Collected.{Collected}
-use Rattle.fvn_signature.specs.Collected.{completed}
-use Rattle.fvn_signature.specs.Joined.{Joined}
 use Rattle.fvn_signature.specs.Queries.{IsKind, IsMaximalOf, IsBelow, IsDirectSubsort, direct_subsorts, IsCompleted}
-
--- two declared sorts of what was collected have one kind exactly where the order joins them
-abbrev pub KindsAreComponents : Type 0
-KindsAreComponents = (c : Collected) (s q : SortId) → s.0 < c.sorts → q.0 < c.sorts → (kind (completed c) s ≡ kind (completed c) q) ↔ Joined c.below s q
 
 -- the list of the direct subsorts of a sort has these and no others
 abbrev pub DirectSubsortsAreListed : Type 0

@@ -1,9 +1,8 @@
--- Signatures as they are collected and completed, their drafts, queries and laws.
-pub mod Collected
+-- Drafts of signatures, their queries and laws.
+pub mod FirstSorts
+pub mod Words
 pub mod Drafts
-pub mod DraftOf
 pub mod FoundAlike
-pub mod Tops
 pub mod Joined
 pub mod Queries
 pub mod Laws

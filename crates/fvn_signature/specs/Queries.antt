@@ -7,7 +7,7 @@ use Rattle.fvn_terms.specs.declared.declarations.Rank.{Rank}
 use Rattle.fvn_terms.specs.declared.declarations.Declarations.{Declarations}
 use Rattle.fvn_terms.specs.Signature.{kind, declared, IsSort, AtOrBelow}
 use Rattle.fvn_forms.specs.SortOrder.{same_sort, at_or_below}
-use Rattle.fvn_signature.specs.Collected.{first_sorts}
+use Rattle.fvn_signature.specs.FirstSorts.{first_sorts}
 use Rattle.fvn_signature.specs.Joined.{Joined}
 
 -- the number of arguments of the first rank; without one it is 0

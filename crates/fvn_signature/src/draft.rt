@@ -14,7 +14,7 @@ ghost use Rattle.fvn_signature.specs.Drafts.{IsDraft};
 ghost use Rattle.fvn_signature.specs.FoundAlike.{FindAlike};
 ghost use Rattle.fvn_signature.specs.inner.Lowering.{lower, lowered};
 
-use crate::closure::has;
+use crate::words::has;
 use fvn_base::Seq;
 use fvn_terms::{Axioms, Declarations, OpId, Rank, SortId};
 

@@ -1,15 +1,9 @@
 //! Laws of signatures, each the contract of a function that does nothing.
 ghost use Rattle.fvn_signature.specs.Laws.{
-  KindsAreComponents,
   DirectSubsortsAreListed,
   DirectSubsortsCover,
   DirectSubsortsOfKinds,
 };
-
-/// Two declared sorts have one kind exactly where the order joins them, along pairs in either direction.
-pub fn kinds_are_components()
-    ensures { KindsAreComponents }
-{}
 
 /// The list of the direct subsorts of a sort has the declared sorts below it with none between, and no others.
 pub fn direct_subsorts_are_listed()

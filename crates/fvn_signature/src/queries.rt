@@ -1,5 +1,4 @@
 //! Good signatures and their queries.
 
 pub mod signature;
-pub mod sorting;
 pub mod subsorts;

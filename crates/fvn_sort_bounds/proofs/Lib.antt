@@ -1,3 +1,4 @@
--- Lemmas on the ranks that give a sort, and on the sorts of sums.
+-- Lemmas on the ranks that give a sort, on the sorts of terms and of sums.
 mod Giving
+mod SortLemmas
 mod Summands

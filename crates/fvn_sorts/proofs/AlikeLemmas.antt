@@ -10,11 +10,11 @@ use Rattle.fvn_terms.specs.Signature.{declared}
 use Rattle.fvn_terms.specs.Equality.{IsAssociative}
 use Rattle.fvn_forms.specs.Good.{TakesKinds, IsOfKind, Associates}
 use Rattle.fvn_forms.specs.Ranks.{Serves, IsResult}
-use Rattle.fvn_signature.specs.declared.collected.Collected.{Collected}
-use Rattle.fvn_signature.specs.Collected.{completed}
+use Rattle.fvn_signature_draft.specs.declared.collected.Collected.{Collected}
+use Rattle.fvn_signature_draft.specs.Collected.{completed}
 use Rattle.fvn_sorts.specs.Faults.{HasNoResult, HasBadBrackets}
-use Rattle.fvn_signature.specs.Drafts.{AreAlike}
-use Rattle.fvn_signature.proofs.AlikeLemmas.{serving, same_results}
+use Rattle.fvn_signature_draft.specs.Alike.{AreAlike}
+use Rattle.fvn_signature_draft.proofs.AlikeLemmas.{serving, same_results}
 
 module _ (d : Declarations) (f g : OpId) (alike : AreAlike d f g) where
   alike_listed : (r : Rank) → Contains (declared d g).ranks r → Contains (declared d f).ranks r

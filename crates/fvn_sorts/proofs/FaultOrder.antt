@@ -6,7 +6,7 @@ use Rattle.fvn_terms.specs.declared.plain.OpId.{OpId}
 use Rattle.fvn_terms.specs.declared.plain.SortId.{SortId}
 use Rattle.fvn_terms.specs.declared.declarations.Rank.{Rank}
 use Rattle.fvn_terms.specs.Signature.{declared}
-use Rattle.fvn_signature.specs.declared.collected.Collected.{Collected}
+use Rattle.fvn_signature_draft.specs.declared.collected.Collected.{Collected}
 use Rattle.fvn_sorts.specs.declared.conditions.shapes.Condition.{Condition}
 use Rattle.fvn_sorts.specs.declared.conditions.shapes.Condition.TheVariants.{Kinds, Shape, Same, Identity}
 use Rattle.fvn_sorts.specs.declared.conditions.brackets.Triple.{Triple}
@@ -15,7 +15,7 @@ use Rattle.fvn_sorts.specs.declared.conditions.fault.SigFault.TheVariants.{SortC
 use Rattle.fvn_sorts.specs.Faults.{HasFault, condition, witness, IsEarlier, HasNoFault}
 use Rattle.fvn_base.specs.Order.{IsBefore}
 use Rattle.fvn_sorts.specs.inner.Searches.{IsFirstFrom, fault_at, place_of, IsFirstList}
-use Rattle.fvn_signature.specs.Collected.{op_number, completed}
+use Rattle.fvn_signature_draft.specs.Collected.{op_number, completed}
 use Rattle.fvn_sorts.proofs.ShapeLemmas.{no_rank}
 
 -- the fault is the one, or one of those, of the n-th condition

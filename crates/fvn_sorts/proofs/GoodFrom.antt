@@ -15,18 +15,18 @@ use Rattle.fvn_forms.specs.SortOrder.{at_or_below}
 use Rattle.fvn_forms.specs.Ranks.{IsResult, ranks_of, result}
 use Rattle.fvn_forms.specs.Good.{TakesKinds, IsOfKind, IsWithinLimits, IsGood}
 use Rattle.fvn_forms.proofs.SortTests.{at_or_below-true, at_or_below-complete}
-use Rattle.fvn_signature.specs.declared.collected.Declaration.{Declaration}
-use Rattle.fvn_signature.specs.declared.collected.Collected.{Collected}
+use Rattle.fvn_signature_draft.specs.declared.collected.Declaration.{Declaration}
+use Rattle.fvn_signature_draft.specs.declared.collected.Collected.{Collected}
 use Rattle.fvn_sorts.specs.declared.conditions.fault.SigFault.TheVariants.{SortCycle, KindsDiffer, AxiomShape, AxiomsDiffer, IdentityBad, NotPreregular, NotAssocSorts, NotCollapsing, TooMany}
-use Rattle.fvn_signature.specs.Collected.{IsClosed, declarations_of, first_axioms, rank_meant, meant_or_kind, completed}
+use Rattle.fvn_signature_draft.specs.Collected.{IsClosed, declarations_of, first_axioms, rank_meant, meant_or_kind, completed}
 use Rattle.fvn_forms.specs.FitsKinds.{TakesTwoAlike, TakesTwoOfItsKind}
 use Rattle.fvn_sorts.specs.Faults.{HasNoFault, HasBadShape}
 use Rattle.fvn_sorts.specs.inner.Searches.{has_lowest}
 use Rattle.fvn_base.proofs.Decided.{unrefuted, decided_by, both_or, some_or_none}
-use Rattle.fvn_signature.proofs.CompletedKinds.{declared-is, rank-declared, completed-kinded}
+use Rattle.fvn_signature_draft.proofs.CompletedKinds.{declared-is, rank-declared, completed-kinded}
 use Rattle.fvn_sorts.proofs.ShapeLemmas.{same_axioms, differ_from_first}
 use Rattle.fvn_sorts.proofs.ResultLemmas.{same_sorts, same_sort_or, agree_of, result_lowest, lowest_result}
-use Rattle.fvn_signature.proofs.Operators.{operators-long, declared_of}
+use Rattle.fvn_signature_draft.proofs.Operators.{operators-long, declared_of}
 
 -- a list is two of one sort, or not
 two_alike_or : (xs : List SortId) → ((k : SortId) × (xs ≡ k ∷ k ∷ [])) ⊎ ((k : SortId) × (xs ≡ k ∷ k ∷ []) → ⊥)

@@ -17,13 +17,13 @@ use Rattle.fvn_forms.specs.Good.{IsOfKind}
 use Rattle.fvn_base.proofs.Membership.{contains_here, contains_later, contains_cases, contains_none, list_all_from, list_all_gives}
 use Rattle.fvn_forms.proofs.SortTests.{at_or_below-true, at_or_below-complete}
 use Rattle.fvn_forms.proofs.Results.{Serves-contains, contains-Serves}
-use Rattle.fvn_signature.specs.declared.collected.Collected.{Collected}
 use Rattle.fvn_signature.specs.declared.draft.Draft.{Draft}
+use Rattle.fvn_signature_draft.specs.declared.collected.Collected.{Collected}
 use Rattle.fvn_sorts.specs.declared.conditions.brackets.Triple.{Triple}
-use Rattle.fvn_signature.specs.Collected.{completed}
 use Rattle.fvn_signature.specs.FoundAlike.{FindAlike}
-use Rattle.fvn_signature.proofs.Parts.{positive}
+use Rattle.fvn_signature.proofs.FirstSorts.{positive}
 use Rattle.fvn_signature.proofs.FoundAlike.{same_lowest}
+use Rattle.fvn_signature_draft.specs.Collected.{completed}
 use Rattle.fvn_forms.specs.FitsKinds.{HaveOneKind}
 use Rattle.fvn_sorts.specs.Faults.{Differ, HasNoResult, HasBadBrackets, HasBadCollapse}
 use Rattle.fvn_sorts.specs.inner.Searches.{AgreeInKinds, has_lowest, HasNoLowest, AreBad, DoesNotCollapse}

@@ -18,17 +18,17 @@ use Rattle.fvn_terms.specs.Term.{none}
 use Rattle.fvn_forms.specs.SortOrder.{sort_number}
 use Rattle.fvn_terms.specs.Equality.{IsCommutative, IsAssociative, constant, identity}
 use Rattle.fvn_base.proofs.Membership.{contains_here, contains_none}
-use Rattle.fvn_signature.specs.declared.collected.Declaration.{Declaration}
-use Rattle.fvn_signature.specs.declared.collected.Collected.{Collected}
+use Rattle.fvn_signature_draft.specs.declared.collected.Declaration.{Declaration}
+use Rattle.fvn_signature_draft.specs.declared.collected.Collected.{Collected}
 use Rattle.fvn_forms.specs.FitsKinds.{TakesTwoAlike, TakesTwoOfItsKind}
 use Rattle.fvn_forms.proofs.SortTests.{same_sort-true}
-use Rattle.fvn_signature.specs.Collected.{IsClosed, op_number, declarations_of, first_axioms, rank_meant, completed}
+use Rattle.fvn_signature_draft.specs.Collected.{IsClosed, op_number, declarations_of, first_axioms, rank_meant, completed}
 use Rattle.fvn_sorts.specs.Faults.{Differ, HasBadShape, HasBadIdentity, IsOnCycle, HasFault}
 use Rattle.fvn_sorts.specs.inner.Searches.{fault_at}
 use Rattle.fvn_base.proofs.Decided.{unrefuted}
 use Rattle.fvn_terms.proofs.AxiomWords.{associative_commutes}
-use Rattle.fvn_signature.proofs.Operators.{operators-long, declared_of}
-use Rattle.fvn_signature.proofs.CompletedKinds.{below-range}
+use Rattle.fvn_signature_draft.proofs.Operators.{operators-long, declared_of}
+use Rattle.fvn_signature_draft.proofs.CompletedKinds.{below-range}
 
 -- the kinds of two arguments, each by what stands at its place
 pub kinds_of_two : (h f : SortId → SortId) (some all : List SortId) (x y : SortId) → some ≡ all → length some ≡ 2 → x ≡ h (f (get_or some 0 (sort_number 0))) → y ≡ h (f (get_or some 1 (sort_number 0))) → map h (map f all) ≡ x ∷ y ∷ []

@@ -10,11 +10,11 @@ use Rattle.fvn_forms.specs.Ranks.{IsResult}
 use Rattle.fvn_forms.specs.FitsKinds.{HaveOneKind, TakesTwoAlike, TakesTwoOfItsKind}
 use Rattle.fvn_forms.specs.Good.{TakesKinds, IsOfKind, Associates, Collapses}
 use Rattle.fvn_base.specs.Order.{IsBefore, IsFirst}
-use Rattle.fvn_signature.specs.declared.collected.Declaration.{Declaration}
+use Rattle.fvn_signature_draft.specs.declared.collected.Declaration.{Declaration}
 use Rattle.fvn_sorts.specs.declared.conditions.fault.SigFault.{SigFault}
 use Rattle.fvn_sorts.specs.declared.conditions.fault.SigFault.TheVariants.{SortCycle, KindsDiffer, AxiomShape, AxiomsDiffer, IdentityBad, NotPreregular, NotAssocSorts, NotCollapsing, TooMany, NoMemory}
-use Rattle.fvn_signature.specs.declared.collected.Collected.{Collected}
-use Rattle.fvn_signature.specs.Collected.{declarations_of, rank_meant, completed}
+use Rattle.fvn_signature_draft.specs.declared.collected.Collected.{Collected}
+use Rattle.fvn_signature_draft.specs.Collected.{declarations_of, rank_meant, completed}
 
 -- two elements of the list are not related
 pub record Differ {A : Type 0} (R : A → A → Type 0) (xs : List A) : Type 0 where

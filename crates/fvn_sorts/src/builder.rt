@@ -1,11 +1,11 @@
 //! Collects a signature.
 ghost use Rattle.std.specs.Prelude.{◌≡◌, ◌<◌, ◌≤◌, ◌+◌, max, [], ◌∷◌, ◌++◌, All, IfOk};
 ghost use Rattle.fvn_base.specs.declared.limits.TheConstants.{SORTS};
-ghost use Rattle.fvn_signature.specs.Collected.{Names};
-ghost use Rattle.fvn_signature.specs.Tops.{tops};
+ghost use Rattle.fvn_signature_draft.specs.Collected.{Names};
+ghost use Rattle.fvn_signature_draft.specs.Tops.{tops};
 
 use fvn_base::Seq;
-use fvn_signature::{Collected, Declaration, tops};
+use fvn_signature_draft::{Collected, Declaration, tops};
 use fvn_terms::{Axioms, NoMemory, OpId, Rank, SortId};
 use std::alloc::Global;
 use std::marker::Model;
@@ -19,8 +19,8 @@ pub struct SignatureBuilder {
 }
 
 impl Model for SignatureBuilder {
-    ghost use Rattle.fvn_signature.specs.declared.collected.Collected.{Collected};
-    ghost use Rattle.fvn_signature.specs.Collected.{IsClosed};
+    ghost use Rattle.fvn_signature_draft.specs.declared.collected.Collected.{Collected};
+    ghost use Rattle.fvn_signature_draft.specs.Collected.{IsClosed};
 
     ghost Value = { Collected };
 

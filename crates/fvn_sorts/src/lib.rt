@@ -7,5 +7,6 @@ mod laws;
 
 pub use builder::SignatureBuilder;
 pub use conditions::fault::SigFault;
-pub use fvn_signature::{Collected, Declaration, Signature};
+pub use fvn_signature::Signature;
+pub use fvn_signature_draft::{Collected, Declaration};
 pub use laws::faultless_signatures_are_good;

@@ -8,7 +8,7 @@ use Rattle.std.proofs.lemmas.List.Elements.{All-head}
 use Rattle.fvn_terms.specs.declared.declarations.Declarations.{Declarations}
 use Rattle.fvn_combine_nodes.specs.Table.{NodeTable, IsOrdered}
 use Rattle.fvn_combine_nodes.specs.States.{IsOpen}
-use Rattle.fvn_combine_nodes.specs.Questions.{IsUndecided}
+use Rattle.fvn_combine_questions.specs.Swaps.{IsUndecided}
 use Rattle.fvn_combine_nodes.specs.declared.state.State.{State}
 use Rattle.fvn_combine_nodes.proofs.Nodes.{arguments_within}
 

@@ -4,7 +4,7 @@
 //! declarations, as `f : A B -> C [comm]`. Sorts are A, B, C and on, and operators f, g, h and on. A sort in
 //! brackets is its kind, and `~>` makes a declaration partial.
 ghost use Rattle.std.specs.Prelude.{◌≤◌, ◌<◌, All, IsTrue};
-ghost use Rattle.fvn_signature.specs.Collected.{Names};
+ghost use Rattle.fvn_signature_draft.specs.Collected.{Names};
 
 use fvn_base::Seq;
 use fvn_base::limits::FIRST_KIND;

@@ -8,7 +8,7 @@ use std::string::String;
 
 // Sums with and without an identity over elements, a free and a commutative operator, and a long tower's operator.
 const MODULE: &str =
-    "fmod M is sorts E S . subsort E < S . ops a b : -> E . op z : -> S . op s : S -> S . op p : S S -> S . op c : S S -> S [comm] . op _+_ : S S -> S [assoc comm] . op _;_ : S S -> S [assoc comm id: z] . vars X Y Z : S . vars A B : E . endfm";
+    "fmod M is sorts E S . subsort E < S . ops a b : -> E . op z : -> S . ops c1 c2 c3 c4 c5 c6 c7 c8 c9 c10 c11 c12 c13 c14 c15 c16 c17 c18 c19 c20 c21 c22 c23 c24 : -> S . op s : S -> S . op p : S S -> S . op c : S S -> S [comm] . op _+_ : S S -> S [assoc comm] . op _;_ : S S -> S [assoc comm id: z] . vars X Y Z : S . vars A B : E . endfm";
 
 // A problem, the number of the status, and the lines of the text.
 const REPLIES: &str = "X =? s(Y) => 0 {X:S --> s(#1:S), Y:S --> #1:S} | complete 1
@@ -23,6 +23,8 @@ a =? b => 1 complete 0
 A =? _+_(X,Y) => 1 complete 0
 X =? s(X) => 1 complete 0
 X =? => 4 problem 2
+_;_(A,X) =? _;_(c1,c2,c3,c4,c5,c6,c7,c8,c9,c10,c11,c12,c13,c14,c15,a) => 0 {A:E --> a, X:S --> _;_(c1,c10,c11,c12,c13,c14,c15,c2,c3,c4,c5,c6,c7,c8,c9)} | complete 1
+_;_(A,X) =? _;_(c1,c2,c3,c4,c5,c6,c7,c8,c9,c10,c11,c12,c13,c14,c15,c16,c17,c18,c19,c20,c21,c22,c23,c24,a) => 0 {A:E --> a, X:S --> _;_(c1,c10,c11,c12,c13,c14,c15,c16,c17,c18,c19,c2,c20,c21,c22,c23,c24,c3,c4,c5,c6,c7,c8,c9)} | complete 1
 _+_(X,X,Y,Y,Z) =? _+_(A,B,C:S,D:S,E:S,F:S) => 5 bound basis _+_";
 
 // The number of a status.

@@ -1,2 +1,3 @@
 -- Lemmas on fixed terms.
 mod Keeping
+mod Asking

@@ -1,4 +1,4 @@
-//! Tests of the reply to `vunify`, and an expander that keeps terms fixed.
+//! Tests of unifiers in theories: the reply to `vunify`, and what is found where terms are to stay irreducible.
 #![tactic(auto)]
 
 mod fixing;

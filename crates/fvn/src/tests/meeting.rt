@@ -11,17 +11,18 @@ use std::thread::{Threads, yield_now};
 /// The looks of a piece for another.
 const LOOKS: u32 = 10_000_000;
 
-const PLUS: &[u8] =
-    b"fmod PLUS is sort Nat . op 0 : -> Nat . op s : Nat -> Nat . op + : Nat Nat -> Nat . vars X Y : Nat . eq +(0,Y) = Y [variant] . eq +(s(X),Y) = s(+(X,Y)) [variant] . endfm";
+/// Twelve steps lead from the start, so that its level below is work for two.
+const CHOICE: &[u8] =
+    b"fmod CHOICE is sort S . ops a b c d e g h i j k l m : -> S . op f : S -> S . var X : S . eq f(a) = a [variant] . eq f(b) = b [variant] . eq f(c) = c [variant] . eq f(d) = d [variant] . eq f(e) = e [variant] . eq f(g) = g [variant] . eq f(h) = h [variant] . eq f(i) = i [variant] . eq f(j) = j [variant] . eq f(k) = k [variant] . eq f(l) = l [variant] . eq f(m) = m [variant] . endfm";
 
-const WORDS: [&str; 6] = ["variants", "+(X,Y)", "--levels", "1", "--workers", "2"];
+const WORDS: [&str; 4] = ["variants", "f(X)", "--workers", "2"];
 
 const WRITTEN: &[u8] =
-    b"#1:Nat {X:Nat --> 0, Y:Nat --> #1:Nat}\n+(#1:Nat,#2:Nat) {X:Nat --> #1:Nat, Y:Nat --> #2:Nat}\ns(+(#1:Nat,#2:Nat)) {X:Nat --> s(#1:Nat), Y:Nat --> #2:Nat}\nbound levels 1\n";
+    b"a {X:S --> a}\nb {X:S --> b}\nc {X:S --> c}\nd {X:S --> d}\ne {X:S --> e}\nf(#1:S) {X:S --> #1:S}\ng {X:S --> g}\nh {X:S --> h}\ni {X:S --> i}\nj {X:S --> j}\nk {X:S --> k}\nl {X:S --> l}\nm {X:S --> m}\ncomplete 13\n";
 
-const SOLVED_WORDS: [&str; 6] = ["vunify", "+(X,Y) =? 0", "--levels", "1", "--workers", "2"];
+const SOLVED_WORDS: [&str; 4] = ["vunify", "f(X) =? a", "--workers", "2"];
 
-const SOLVED: &[u8] = b"{X:Nat --> 0, Y:Nat --> 0}\nbound levels 1\n";
+const SOLVED: &[u8] = b"{X:S --> a}\ncomplete 1\n";
 
 /// Counts the pieces that are inside; each looks for a second one before it leaves.
 #[derive(Drop)]
@@ -58,8 +59,8 @@ impl Meeting {
 
 impl Gate for Meeting {
     fn enter(&self, _piece: u32) {
-        // The first level has one variant, whose piece has nobody to meet.
-        if self.come.fetch_add(1, Ordering::SeqCst) == 0 {
+        // The first level has one variant, and few children: neither piece has anybody to meet.
+        if self.come.fetch_add(1, Ordering::SeqCst) < 2 {
             return;
         }
         self.inside.fetch_add(1, Ordering::SeqCst);
@@ -80,7 +81,7 @@ fn assert_met<R: Abort + Threads + Sync>(
     let mut module = source_of(alloc, setting)?;
     let mut out = sink_of(alloc, setting)?;
     let status = run(rt, &gate, alloc, words.as_slice(), &mut module, &mut out);
-    assert_eq!(rt; status, Status::Ended);
+    assert_eq!(rt; status, Status::Solved);
     assert!(rt; out.written() == written);
     assert!(rt; gate.seen.load(Ordering::SeqCst));
     Ok(())
@@ -88,10 +89,10 @@ fn assert_met<R: Abort + Threads + Sync>(
 
 #[test]
 fn two_workers_are_inside_at_once(rt: HostRuntime) -> Result<(), NoMemory> {
-    assert_met(&rt, rt.alloc(), &plain(&WORDS, PLUS), WRITTEN)
+    assert_met(&rt, rt.alloc(), &plain(&WORDS, CHOICE), WRITTEN)
 }
 
 #[test]
 fn two_workers_solve_at_once(rt: HostRuntime) -> Result<(), NoMemory> {
-    assert_met(&rt, rt.alloc(), &plain(&SOLVED_WORDS, PLUS), SOLVED)
+    assert_met(&rt, rt.alloc(), &plain(&SOLVED_WORDS, CHOICE), SOLVED)
 }

@@ -1,14 +1,15 @@
 -- What the highest bits of a number tell of every number that begins with them.
 use Rattle.std.specs.Prelude.{◌≡◌, ℕ, ◌/◌, ◌^◌, ◌+◌, ◌<◌, ◌≤◌, Bool, true, false, List, length, slice_index, slice_index_or, All}
-use Rattle.fvn_base.specs.declared.limits.TheConstants.{COMPONENT, MINIMAL_SOLUTIONS}
+use Rattle.fvn_base.specs.declared.limits.TheConstants.{COMPONENT}
 use Rattle.fvn_lindio.specs.Systems.{vectors_of}
 use Rattle.fvn_lindio.specs.declared.system.Solution.{Solution}
+use Rattle.fvn_acunify.specs.declared.limits.TheConstants.{LISTED_SOLUTIONS}
 use Rattle.fvn_acunify.specs.declared.theory.ColumnBounds.{ColumnBounds}
 use Rattle.fvn_acunify.specs.ValidChoice.{column_sum}
 
 -- few solutions, of so many columns and with small components, and constants among these columns
 pub record IsBounded (columns : ℕ) (constants : List ℕ) (basis : List Solution) : Type 0 where
-  pub few : length basis ≤ MINIMAL_SOLUTIONS
+  pub few : length basis ≤ LISTED_SOLUTIONS
   pub sized : All (λ v. length v.parts ≡ columns) basis
   pub narrow : All (λ v. All (λ a. a ≤ COMPONENT) v.parts) basis
   pub among : All (λ c. c < columns) constants

@@ -4,7 +4,7 @@ use Rattle.fvn_base.specs.declared.memory.NoMemory.{NoMemory}
 use Rattle.fvn_terms.specs.Substitution.{Substitution}
 use Rattle.fvn_flat.specs.Solving.{IsBasisCause, IsTooLarge}
 use Rattle.fvn_combine_nodes.specs.States.{Admits, IsOpen}
-use Rattle.fvn_combine_nodes.specs.Trees.{weight}
+use Rattle.fvn_combine_tree.specs.Trees.{weight}
 use Rattle.fvn_combine_nodes.specs.Unifiers.{kernel}
 use Rattle.fvn_combine_nodes.specs.declared.state.State.{State}
 use Rattle.fvn_acunify_product.specs.Tags.{tags_left}

@@ -1,7 +1,9 @@
 -- Minimal solutions, faults, wheels, users and shared classes in the making.
 use Rattle.std.specs.Prelude.{◌≡◌, ◌≢◌, ◌↔◌, ℕ, ◌<◌, ◌≤◌, Bool, List, [], length, slice_get, slice_index_or, Option, Some, All, AllPairs, Contains}
+use Rattle.fvn_base.specs.declared.limits.TheConstants.{MINIMAL_SOLUTIONS}
 use Rattle.fvn_terms.specs.declared.plain.OpId.{OpId}
 use Rattle.fvn_terms.specs.declared.declarations.Declarations.{Declarations}
+use Rattle.fvn_lindio.specs.declared.system.System.{System}
 use Rattle.fvn_lindio.specs.declared.system.Solution.{Solution}
 use Rattle.fvn_flat.specs.Solving.{IsRefused}
 use Rattle.fvn_combine_nodes.specs.Table.{NodeTable}
@@ -20,10 +22,20 @@ abbrev pub IsFaultOf : Sums → OpenFault → Type 0
 IsFaultOf e (Basis f system) = (e.operator ≡ f) × (e.system ≡ system) × IsRefused system
 IsFaultOf e NoMemory = Unit {0}
 
--- the minimal solutions of the sum operators before this place
-pub record AreBasesBelow (sums : List Sums) (n : ℕ) (bases : List (List Solution)) : Type 0 where
+-- few minimal solutions of a system that is not refused
+pub record IsKeptBasis (s : System) (basis : List Solution) : Type 0 where
+  pub is_basis : IsBasis s basis
+  pub few : length basis ≤ MINIMAL_SOLUTIONS
+  pub kept : IsRefused s → ⊥
+
+-- such lists of the sum operators before this place
+pub record AreBasesBelow (P : System → List Solution → Type 0) (sums : List Sums) (n : ℕ) (bases : List (List Solution)) : Type 0 where
   pub as_many : length bases ≡ n
-  pub each : (i : ℕ) (e : Sums) → i < n → slice_get sums i ≡ Some e → IsBasis e.system (slice_index_or bases i [])
+  pub each : (i : ℕ) (e : Sums) → i < n → slice_get sums i ≡ Some e → P e.system (slice_index_or bases i [])
+
+-- few minimal solutions of each sum operator, whose systems are not refused
+abbrev pub AreKeptBases : List Sums → List (List Solution) → Type 0
+AreKeptBases sums bases = AreBasesBelow IsKeptBasis sums (length sums) bases
 
 module _ (d : Declarations) (t : NodeTable) (class : ℕ → ℕ) (tag : ℕ → Option OpId) (sorted : Bool) where
   -- the wheel of a sum operator, with its bounds

@@ -1,5 +1,5 @@
 -- Sizes of values: classes whose values have no more symbols than those of others, or fewer.
-use Rattle.std.specs.Prelude.{◌≡◌, ℕ, ◌≤◌, ◌<◌, Bool, true, false, List, All}
+use Rattle.std.specs.Prelude.{◌≡◌, ℕ, ◌≤◌, ◌<◌, Bool, true, false, zero, suc, List, slice_index_or, All}
 use Rattle.fvn_terms.specs.declared.plain.OpId.{OpId}
 use Rattle.fvn_terms.specs.declared.declarations.Declarations.{Declarations}
 use Rattle.fvn_forms.specs.Flat.{FlatTerm, symbols}
@@ -22,6 +22,21 @@ IsSaid w e = IsLess e.proper (w e.small) (w e.large)
 -- all pairs do
 abbrev pub AreSaid : (ℕ → ℕ) → List Inside → Type 0
 AreSaid w list = All (IsSaid w) list
+
+-- what is noted of class x beside class k, as a number: nothing, that it has no fewer symbols, or that it has more
+abbrev pub IsNoted : (ℕ → ℕ) → (k x : ℕ) → ℕ → Type 0
+IsNoted w k x zero = Unit {0}
+IsNoted w k x (suc zero) = w k ≤ w x
+IsNoted w k x (suc (suc n)) = w k < w x
+
+-- what is noted of each class holds of weights of classes
+abbrev pub AreNoted : (ℕ → ℕ) → ℕ → List ℕ → Type 0
+AreNoted w k marks = (x : ℕ) → IsNoted w k x (slice_index_or marks x 0)
+
+-- what is noted of a class that contains one of which this is noted
+abbrev pub followed_mark : ℕ → Bool → ℕ
+followed_mark mark true = 2
+followed_mark mark false = mark
 
 module _ (s : State) (values : ℕ → FlatTerm) where
   -- the symbols of the value of the class of node k

@@ -1,6 +1,6 @@
 -- Plans as lists: names, binders, and what stands for solutions.
 use Rattle.std.specs.Prelude.{◌≡◌, ◌≢◌, ◌⊎◌, ℕ, zero, suc, ◌+◌, ◌*◌, ◌<◌, ◌≤◌, nat_lt, false, true, if◌then◌else◌, List, [], ◌∷◌, ◌++◌, map, length, slice_get, slice_index, slice_index_or, Option, Some, None, All, AllPairs, Contains}
-use Rattle.fvn_base.specs.declared.limits.TheConstants.{MINIMAL_SOLUTIONS}
+use Rattle.fvn_acunify.specs.declared.limits.TheConstants.{LISTED_SOLUTIONS}
 use Rattle.fvn_terms.specs.declared.plain.Var.{Var as Variable}
 use Rattle.fvn_terms.specs.declared.plain.OpId.{OpId}
 use Rattle.fvn_terms.specs.declared.plain.SortId.{SortId}
@@ -98,7 +98,7 @@ module _ (d : Declarations) (t : NodeTable) where
     pub record AreAllShares (sums : List Sums) (bases : List (List Solution)) (numbers : List ℕ) (names : List Variable) (start : ℕ) (all : List (List Share)) : Type 0 where
       pub as_many : length all ≡ length sums
       pub each : (i : ℕ) (s : Sums) → slice_get sums i ≡ Some s
-          → AreShares s names (start + MINIMAL_SOLUTIONS * i) (chosen (slice_index numbers i) (vectors_of (slice_index_or bases i []))) (slice_index_or all i [])
+          → AreShares s names (start + LISTED_SOLUTIONS * i) (chosen (slice_index numbers i) (vectors_of (slice_index_or bases i []))) (slice_index_or all i [])
 
 -- the form of a class that is bound so
 abbrev pub form_of : NodeTable → List Sums → Binder → Form
@@ -191,5 +191,5 @@ module _ (t : NodeTable) (class : ℕ → ℕ) (names : List Variable) where
 pub record AreSized (r : Reading) (bases : List (List Solution)) (numbers : List ℕ) : Type 0 where
   pub basis_each : length bases ≡ length r.sums
   pub number_each : length numbers ≡ length r.sums
-  pub few : (i : ℕ) → i < length r.sums → length (slice_index_or bases i []) ≤ MINIMAL_SOLUTIONS
+  pub few : (i : ℕ) → i < length r.sums → length (slice_index_or bases i []) ≤ LISTED_SOLUTIONS
   pub sized : (i : ℕ) (s : Sums) → slice_get r.sums i ≡ Some s → All (λ v. length v ≡ length s.columns) (vectors_of (slice_index_or bases i []))

@@ -7,14 +7,14 @@ use Rattle.fvn_lex.specs.Parts.{HasPieces}
 use Rattle.fvn_lex.specs.Join.{IsPiece}
 use Rattle.fvn_base.specs.declared.limits.TheConstants.{EQUATIONS}
 use Rattle.fvn_forms.specs.Good.{IsGood}
-use Rattle.fvn_signature.specs.Collected.{completed}
+use Rattle.fvn_signature_draft.specs.Collected.{completed}
 use Rattle.fvn_sorts.specs.Faults.{HasNoFault, IsFirstFault as IsFirstSignatureFault}
 use Rattle.fvn_module_syntax.specs.declared.statement.Statement.{Statement}
 use Rattle.fvn_module_syntax.specs.declared.form.Form.{Form}
 use Rattle.fvn_module_statements.specs.declared.form.FormFault.TheVariants as form
 use Rattle.fvn_module_statements.specs.Forms.{IsFormOf, IsFirstFault as IsFirstFormFault}
 use Rattle.fvn_module_names.specs.declared.fault.NameFault.TheVariants as name
-use Rattle.fvn_signature.specs.declared.collected.Collected.{Collected}
+use Rattle.fvn_signature_draft.specs.declared.collected.Collected.{Collected}
 use Rattle.fvn_syntax.specs.declared.names.Names.{Names}
 use Rattle.fvn_module_names.specs.Variables.{no_variables}
 use Rattle.fvn_module_declarations.specs.Module.{names_in, names_alone, collected_in}

@@ -3,9 +3,9 @@ use Rattle.std.specs.Prelude.{◌≡◌, ◌+◌, max, List, [], ◌∷◌, map,
 use Rattle.fvn_base.specs.declared.limits.TheConstants.{OPERATORS}
 use Rattle.fvn_terms.specs.declared.plain.OpId.{OpId}
 use Rattle.fvn_terms.specs.declared.declarations.Axioms.{Axioms}
-use Rattle.fvn_signature.specs.declared.collected.Declaration.{Declaration}
-use Rattle.fvn_signature.specs.declared.collected.Collected.{Collected}
-use Rattle.fvn_signature.specs.Collected.{op_number}
+use Rattle.fvn_signature_draft.specs.declared.collected.Declaration.{Declaration}
+use Rattle.fvn_signature_draft.specs.declared.collected.Collected.{Collected}
+use Rattle.fvn_signature_draft.specs.Collected.{op_number}
 use Rattle.fvn_syntax.specs.Pieces.{Text}
 use Rattle.fvn_syntax.specs.Texts.{place_or_end, with_text}
 use Rattle.fvn_module_syntax.specs.declared.statement.Statement.{Statement}

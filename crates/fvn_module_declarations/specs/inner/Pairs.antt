@@ -4,7 +4,7 @@ use Rattle.std.specs.List.{list_any}
 use Rattle.fvn_base.specs.declared.limits.TheConstants.{SORTS}
 use Rattle.fvn_terms.specs.declared.plain.SortId.{SortId}
 use Rattle.fvn_forms.specs.SortOrder.{sort_number}
-use Rattle.fvn_signature.specs.declared.collected.Collected.{Collected}
+use Rattle.fvn_signature_draft.specs.declared.collected.Collected.{Collected}
 use Rattle.fvn_module_names.specs.Order.{same_pair, with_all}
 
 -- the table tells of each pair whether it is in the list

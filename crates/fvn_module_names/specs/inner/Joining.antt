@@ -2,7 +2,7 @@
 use Rattle.std.specs.Prelude.{◌≡◌, ◌<◌, ℕ, true, List, length, All}
 use Rattle.fvn_terms.specs.declared.plain.SortId.{SortId}
 use Rattle.fvn_forms.specs.SortOrder.{sort_number, reaches}
-use Rattle.fvn_signature.specs.Collected.{both_ways}
+use Rattle.fvn_signature_draft.specs.Collected.{both_ways}
 use Rattle.fvn_module_names.specs.inner.Classes.{AreAlike}
 
 -- pairs lead from one sort to the other, in either direction

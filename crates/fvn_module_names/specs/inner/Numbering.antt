@@ -1,8 +1,9 @@
 -- The numbers of kinds, from the labels of classes.
 use Rattle.std.specs.Prelude.{◌≡◌, ◌<◌, ◌+◌, ℕ, List, map, length, nat_eq, Option, MatchOption, All}
 use Rattle.fvn_forms.specs.SortOrder.{sort_number}
-use Rattle.fvn_signature.specs.declared.collected.Collected.{Collected}
-use Rattle.fvn_signature.specs.Collected.{joins, kind_of, first_sorts, parts_before}
+use Rattle.fvn_signature.specs.FirstSorts.{first_sorts}
+use Rattle.fvn_signature_draft.specs.declared.collected.Collected.{Collected}
+use Rattle.fvn_signature_draft.specs.Collected.{joins, kind_of, parts_before}
 use Rattle.fvn_module_names.specs.inner.Classes.{label}
 
 -- the classes are those of the sorts that the order joins

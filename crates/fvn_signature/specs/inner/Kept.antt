@@ -3,7 +3,7 @@ use Rattle.std.specs.Prelude.{◌≡◌, List, map}
 use Rattle.fvn_terms.specs.declared.plain.SortId.{SortId}
 use Rattle.fvn_forms.specs.Good.{IsGood}
 use Rattle.fvn_signature.specs.declared.draft.Draft.{Draft}
-use Rattle.fvn_signature.specs.Collected.{first_sorts}
+use Rattle.fvn_signature.specs.FirstSorts.{first_sorts}
 use Rattle.fvn_signature.specs.Queries.{direct_subsorts, IsCompleted}
 
 -- what a signature keeps: a good draft, and for each sort and kind the declared sorts right below it

@@ -2,7 +2,7 @@
 ghost use Rattle.std.specs.Prelude.{◌≡◌, ◌&&◌, not, map, IfOk, ◌↔◌, ◌<◌, Any, IsTrue, MatchOption};
 ghost use Rattle.fvn_terms.specs.declared.plain.SortId.{SortId};
 ghost use Rattle.std.specs.List.{list_all};
-ghost use Rattle.fvn_signature.specs.Collected.{first_sorts};
+ghost use Rattle.fvn_signature.specs.FirstSorts.{first_sorts};
 ghost use Rattle.fvn_signature.specs.Queries.{is_below, is_direct, direct_subsorts, IsMaximalOf, IsTop};
 
 use crate::draft::Draft;

@@ -9,13 +9,13 @@ use Rattle.fvn_forms.specs.SortOrder.{at_or_below}
 use Rattle.fvn_forms.specs.Ranks.{results, is_lowest, result}
 use Rattle.fvn_forms.specs.FitsKinds.{HaveOneKind}
 use Rattle.fvn_forms.specs.Good.{Associates, Collapses}
-use Rattle.fvn_signature.specs.declared.collected.Collected.{Collected}
+use Rattle.fvn_signature_draft.specs.declared.collected.Collected.{Collected}
 use Rattle.fvn_sorts.specs.declared.conditions.shapes.Condition.{Condition}
 use Rattle.fvn_sorts.specs.declared.conditions.shapes.Condition.TheVariants.{Kinds, Shape, Same, Identity}
 use Rattle.fvn_sorts.specs.declared.conditions.fault.SigFault.{SigFault}
 use Rattle.fvn_sorts.specs.declared.conditions.fault.SigFault.TheVariants.{KindsDiffer, AxiomShape, AxiomsDiffer, IdentityBad}
 use Rattle.fvn_sorts.specs.declared.conditions.brackets.Triple.{Triple}
-use Rattle.fvn_signature.specs.Collected.{completed}
+use Rattle.fvn_signature_draft.specs.Collected.{completed}
 use Rattle.fvn_sorts.specs.Faults.{Differ, HasFault, condition, sort_numbers, IsEarlier}
 use Rattle.fvn_base.specs.Order.{IsBefore}
 

@@ -2,10 +2,11 @@
 ghost use Rattle.std.specs.Prelude.{◌≡◌, ◌↔◌, ◌<◌, Any, IsTrue, MatchOption};
 ghost use Rattle.fvn_terms.specs.Signature.{AtOrBelow};
 ghost use Rattle.fvn_terms.specs.declared.plain.SortId.{SortId};
-ghost use Rattle.fvn_signature.specs.DraftOf.{IsDraftOf};
+ghost use Rattle.fvn_signature_draft.specs.DraftOf.{IsDraftOf};
 ghost use Rattle.fvn_sorts.specs.Faults.{IsOnCycle};
 
-use fvn_signature::{Collected, Draft};
+use fvn_signature::Draft;
+use fvn_signature_draft::Collected;
 use fvn_terms::SortId;
 
 /// Whether the pair leads up from the sort, and the order back to it.

@@ -1,14 +1,15 @@
 //! A signature from what was collected.
 ghost use Rattle.std.specs.Prelude.{◌≡◌, ◌⊎◌, IfOk, IfErr, OnOk};
 ghost use Rattle.fvn_forms.specs.Good.{IsGood};
-ghost use Rattle.fvn_signature.specs.Collected.{IsClosed, completed};
+ghost use Rattle.fvn_signature_draft.specs.Collected.{IsClosed, completed};
 ghost use Rattle.fvn_sorts.specs.Faults.{HasNoFault, IsFirstFault};
 
 use crate::builder::SignatureBuilder;
 use crate::conditions::fault::SigFault;
 use crate::conditions::sizes::is_too_large;
 use crate::conditions::stages::first_fault;
-use fvn_signature::{Collected, Signature, draft_of};
+use fvn_signature::Signature;
+use fvn_signature_draft::{Collected, draft_of};
 use fvn_terms::NoMemory;
 use std::alloc::Global;
 

@@ -6,7 +6,8 @@ ghost use Rattle.fvn_sorts.specs.inner.Pairs.{rank_at, Take, HaveThird, HaveLowe
 
 use crate::conditions::pairs::have_third;
 use fvn_base::Seq;
-use fvn_signature::{Draft, appended};
+use fvn_signature::Draft;
+use fvn_signature_draft::appended;
 use fvn_terms::{NoMemory, Rank, SortId};
 use std::alloc::Global;
 

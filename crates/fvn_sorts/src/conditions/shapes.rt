@@ -2,13 +2,14 @@
 ghost use Rattle.std.specs.Prelude.{◌≡◌, ◌↔◌, [], ◌∷◌, map, Any, IsTrue, MatchOption};
 ghost use Rattle.fvn_terms.specs.Signature.{kind, declared, axioms, HasKind};
 ghost use Rattle.fvn_terms.specs.Equality.{constant as constant_term};
-ghost use Rattle.fvn_signature.specs.Collected.{declarations_of, completed, meant_or_kind, rank_meant};
-ghost use Rattle.fvn_signature.specs.DraftOf.{IsDraftOf};
+ghost use Rattle.fvn_signature_draft.specs.Collected.{declarations_of, completed, meant_or_kind, rank_meant};
+ghost use Rattle.fvn_signature_draft.specs.DraftOf.{IsDraftOf};
 ghost use Rattle.fvn_forms.specs.FitsKinds.{HaveOneKind, TakesTwoAlike};
 ghost use Rattle.fvn_sorts.specs.Faults.{Differ, HasBadShape, HasBadIdentity, HasFault};
 ghost use Rattle.fvn_sorts.specs.inner.Searches.{fault_at, IsFirstOperator};
 
-use fvn_signature::{Collected, Declaration, Draft, first_axioms, meant_or_kind};
+use fvn_signature::Draft;
+use fvn_signature_draft::{Collected, Declaration, first_axioms, meant_or_kind};
 use fvn_terms::{Axioms, Declarations, OpId, Rank, SortId};
 
 /// A condition that speaks of the declarations of one operator alone.

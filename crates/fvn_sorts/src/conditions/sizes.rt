@@ -3,7 +3,7 @@ ghost use Rattle.std.specs.Prelude.{◌↔◌, IsTrue};
 ghost use Rattle.fvn_sorts.specs.Faults.{IsTooLarge};
 
 use fvn_base::limits::{ARGUMENTS, OPERATORS, SORTS};
-use fvn_signature::Collected;
+use fvn_signature_draft::Collected;
 
 /// Whether more was collected than a signature may have.
 pub fn is_too_large(collected: &Collected) -> bool

@@ -2,7 +2,7 @@
 ghost use Rattle.std.specs.Prelude.{◌≡◌, ◌+◌, IfOk, map};
 ghost use Rattle.fvn_terms.specs.declared.plain.OpId.{OpId};
 ghost use Rattle.fvn_terms.specs.Signature.{kind};
-ghost use Rattle.fvn_signature.specs.DraftOf.{IsDraftOf};
+ghost use Rattle.fvn_signature_draft.specs.DraftOf.{IsDraftOf};
 ghost use Rattle.fvn_sorts.specs.Faults.{HasNoResult, HasBadBrackets, HasBadCollapse};
 ghost use Rattle.fvn_sorts.specs.inner.Searches.{IsFirstFrom, AgreeInKinds, fault_at, place_of, IsFirstList, the_list, one_sort, three_sorts};
 
@@ -12,7 +12,8 @@ use crate::conditions::fault::SigFault;
 use crate::conditions::preregular::first_without;
 use crate::conditions::shapes::{Condition, first_failing};
 use fvn_base::Seq;
-use fvn_signature::{Collected, Draft, has_earlier_alike, without_repeats};
+use fvn_signature::Draft;
+use fvn_signature_draft::{Collected, has_earlier_alike, without_repeats};
 use fvn_terms::{Declarations, NoMemory, OpId, SortId};
 use std::alloc::Global;
 

@@ -6,16 +6,19 @@ ghost use Rattle.fvn_combine_choices.specs.Tables.{HasSums};
 ghost use Rattle.fvn_combine_inferring.specs.Inferred.{TellHeads};
 ghost use Rattle.fvn_combine_leaves.specs.Readings.{IsReading};
 ghost use Rattle.fvn_combine_nodes.specs.States.{IsClosed, IsOpen, class_of};
-ghost use Rattle.fvn_combine_nodes.specs.Trees.{AreClosed, IsOpenAtTop, weight};
+ghost use Rattle.fvn_combine_tree.specs.Trees.{AreClosed, IsOpenAtTop, weight};
 ghost use Rattle.fvn_combine_systems.specs.NodeSystems.{HoldsArguments};
 
 use super::unifying::push_number;
-use fvn_combine_candidates::bases;
+use fvn_combine_candidates::{SolvedSystems, bases};
 use fvn_combine_complete::tables_have_sums;
 use fvn_combine_inferring::{Inferred, Known, differ, infer, known_of};
-use fvn_combine_leaves::{Reading, first_question, question_on_all, question_on_touched, read};
-use fvn_combine_nodes::{State, Table, Tree, table_of};
+use fvn_combine_leaves::Reading;
+use fvn_combine_nodes::{State, Table};
+use fvn_combine_questions::{first_question, question_on_all, question_on_touched};
+use fvn_combine_reading::read;
 use fvn_combine_systems::{tables_are_small, tables_hold_arguments};
+use fvn_combine_tree::{Tree, table_of};
 use fvn_flat::Pairs;
 use fvn_signature::Signature;
 use fvn_terms::NoMemory;
@@ -63,9 +66,10 @@ fn asked_further(
     ensures within { IfSome result (λ p. (p.0 < length table.now.nodes) × (p.1 < length table.now.nodes)) }
     ensures open { IfSome result (λ p. IsOpen state.now p.0 p.1) }
 {
+    let mut solved = SolvedSystems::new(alloc);
     match first_question(sig, table, state, reading) {
         Some(pair) => Some(pair),
-        None => match bases(alloc, sig, table, state, reading) {
+        None => match bases(alloc, sig, table, state, reading, &mut solved) {
             Err(_) => question_on_all(sig, table, state, reading),
             Ok(lists) => question_on_touched(sig, table, state, reading, lists.as_slice()),
         },

@@ -1,10 +1,12 @@
 //! Asks the questions of a tree until it is empty.
 ghost use Rattle.std.specs.Prelude.{◌<◌, length, IfOk, IfSome, OnOk, IsTrue};
 ghost use Rattle.fvn_combine_nodes.specs.States.{IsClosed, IsOpen, IsNaming};
-ghost use Rattle.fvn_combine_nodes.specs.Trees.{AreClosed, weight};
+ghost use Rattle.fvn_combine_tree.specs.Trees.{AreClosed, weight};
 
 use super::tables::push_state;
-use fvn_combine_nodes::{State, Table, Tree, undecided};
+use fvn_combine_nodes::{State, Table};
+use fvn_combine_questions::undecided;
+use fvn_combine_tree::Tree;
 use fvn_signature::Signature;
 use fvn_terms::NoMemory;
 use std::alloc::Global;

@@ -6,7 +6,7 @@ ghost use Rattle.fvn_flat.specs.Fits.{Fits};
 ghost use Rattle.fvn_flat.specs.Problems.{variables_of};
 ghost use Rattle.fvn_flat.specs.Solving.{IsGiven, problem_of, symbols_of_pairs};
 
-use fvn_combine_nodes::table_of;
+use fvn_combine_tree::table_of;
 use fvn_combine_triangular::variables;
 use fvn_flat::Pairs;
 use fvn_signature::Signature;

@@ -3,7 +3,7 @@ ghost use Rattle.std.specs.Prelude.{◌<◌};
 
 use super::rows::{Asked, OPERATORS, assert_table};
 use fvn_base::Seq;
-use fvn_combine_nodes::{Tree, table_of};
+use fvn_combine_tree::{Tree, table_of};
 use fvn_flat::{Flat, Pairs, flatten};
 use fvn_signature::Signature;
 use fvn_terms::{Args, NoMemory, OpId, Plain, SortId, Var};

@@ -11,11 +11,12 @@ use super::tables::push_after;
 use fvn_acunify_product::Tags;
 use fvn_base::Seq;
 use fvn_combine_candidates::{
-    SharedClass, bases, leave_no_alias, option_counts, shared, sum_operators_are_few, tags_of,
-    wheels,
+    SharedClass, SolvedSystems, bases, leave_no_alias, option_counts, shared,
+    sum_operators_are_few, tags_of, wheels,
 };
-use fvn_combine_leaves::{Reading, read};
+use fvn_combine_leaves::Reading;
 use fvn_combine_nodes::{State, Table};
+use fvn_combine_reading::read;
 use fvn_combine_systems::tables_hold_arguments;
 use fvn_flat::Pairs;
 use fvn_lindio::Solution;
@@ -206,7 +207,8 @@ fn push_read(
     requires reading { IsReading sig.now table.now (class_of state.now) reading.now }
     requires few { length reading.now.sums ≤ 1000 }
 {
-    match bases(alloc, sig, table, state, reading) {
+    let mut solved = SolvedSystems::new(alloc);
+    match bases(alloc, sig, table, state, reading, &mut solved) {
         Err(_) => out.push_str(" refused")?,
         Ok(lists) => {
             push_sizes(out, lists.as_slice())?;

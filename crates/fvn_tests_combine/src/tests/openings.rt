@@ -1,7 +1,7 @@
 //! What is held of small problems.
 use super::opened::push_opened;
 use super::rows::{Asked, OPERATORS, WITH_ELEMENTS, assert_table};
-use fvn_combine_nodes::{start, table_of};
+use fvn_combine_tree::{start, table_of};
 use fvn_flat::Pairs;
 use fvn_signature::Signature;
 use fvn_terms::NoMemory;

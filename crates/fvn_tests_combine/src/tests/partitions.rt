@@ -2,7 +2,7 @@
 use super::driving::push_states;
 use super::rows::{Asked, OPERATORS, assert_table};
 use super::tables::push_table;
-use fvn_combine_nodes::table_of;
+use fvn_combine_tree::table_of;
 use fvn_flat::Pairs;
 use fvn_signature::Signature;
 use fvn_terms::NoMemory;

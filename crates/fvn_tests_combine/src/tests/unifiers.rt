@@ -97,12 +97,19 @@ const SOLVED: &str = "4 20 A0 A1 k = A2 A3 k => unifiers 4
 4 20 A0 A0 i = A1; A1 A1 i = A2; A2 A2 i = A3; A3 A3 i = A4 => size 0
 4 20 f f i f f i i f f i f f i i i = f f i f f i i f f i f f i i i => problem 0
 4 20 A0 A1 k A2 k A3 k A4 k = A5 A6 k A7 k A8 k A9 k => basis 0
+4 20 A0 A1 l A2 l A3 l A4 l = A5 A6 l A7 l A8 l A9 l => complete 1
+4 30 A0 A1 l A2 l A3 l A4 l Ab l = A5 A6 l A7 l A8 l A9 l Ac l => basis 0
 4 20 A0 = A1; A2 = A3; A4 = A5; A6 = A7; A8 = A9; Ab = Ac; Ad = Ae; Af = Ag; Ah = Ai; Aj = Ak => complete 1
 8 1000 A0 A1 k = A2 A3 k => complete 7
 7 1000 A0 A1 k = A2 A3 k => unifiers 7
 8 1000 f* = f* => complete 1
 8 1000 f* = f* h => problem 0
 8 1000 f* = f h h => complete 0";
+
+// The same over sums that are not neutral: 25 solutions are listed where all but one stand in columns of elements.
+const SOLVED_WITH_ELEMENTS: &str = "4 20 A0 A1 l A2 l A3 l A4 l = A5 A6 l A7 l A8 l A9 l => basis 0
+4 20 B0 B1 l B2 l A3 l A4 l = A5 B6 l B7 l B8 l A9 l => unifiers 4
+4 20 B0 B1 l B2 l B3 l A4 l = B5 B6 l B7 l B8 l A9 l => unifiers 4";
 
 /// What is found of the unifiers of a problem that may be given.
 fn push_unified(
@@ -157,6 +164,17 @@ pub fn shown_unified(
 #[test]
 fn problems_are_solved_within_limits(rt: HostRuntime) -> Result<(), NoMemory> {
     assert_table(&rt, rt.alloc(), Asked::Solved, OPERATORS, SOLVED)
+}
+
+#[test]
+fn problems_with_elements_are_solved_within_limits(rt: HostRuntime) -> Result<(), NoMemory> {
+    assert_table(
+        &rt,
+        rt.alloc(),
+        Asked::Solved,
+        WITH_ELEMENTS,
+        SOLVED_WITH_ELEMENTS,
+    )
 }
 
 #[test]

@@ -1,6 +1,7 @@
 //! Terms with their least sorts.
 use super::rows::{Asked, assert_table};
 use fvn_signature::Signature;
+use fvn_sort_bounds::sort_of;
 use fvn_terms::{NoMemory, Plain, SortId};
 use fvn_tests_samples::{has_kind, kind_of, push_sort, term_of};
 use std::alloc::Global;
@@ -40,7 +41,7 @@ f h i g => C";
 /// The sort of the term, where it is well-kinded.
 fn least_sort(sig: &Signature, t: &Plain) -> Option<SortId> {
     if has_kind(sig, t, kind_of(sig, t)) {
-        Some(sig.sort_of(t))
+        Some(sort_of(sig, t))
     } else {
         None
     }

@@ -1,5 +1,5 @@
 -- The solutions keep to what the choices ask, and the refusals are those of the system.
-use Rattle.std.proofs.Common.{◌≡◌, ◌↔◌, ℕ, ◌^◌, List, length, false, Ok, Err, Contains, refl, ap, sym, ◌∙◌, subst}
+use Rattle.std.proofs.Common.{◌≡◌, ◌↔◌, ℕ, ◌^◌, List, length, false, Ok, Err, Contains, refl, ap, sym, ◌∙◌, subst, arith}
 use Rattle.std.proofs.lemmas.Result.{IfOk-weaker, IfErr-at_err, err_from_is_err_and}
 use Rattle.fvn_lindio.specs.Systems.{IsMinimal, rows_of, vectors_of}
 use Rattle.fvn_acunify.specs.Cursor.{Cursor, unbounded}
@@ -22,7 +22,7 @@ over-requires c =
     let basis = c.in_ok-solutions.solutions in
     record {
       bounded = subst (λ n. IsBounded n theory.constants basis) (sym c.requires.marked)
-          (IsBounded-from_minimal theory.system.columns (rows_of theory.system) theory.constants basis c.in_ok-solutions.ensures.few
+          (IsBounded-from_minimal theory.system.columns (rows_of theory.system) theory.constants basis (omega (arith, c.in_ok-solutions.ensures.few))
           (λ v. (c.in_ok-solutions.ensures.exact v).0) c.in_ok-solutions.ensures.narrow c.requires.among);
     }
 

@@ -11,7 +11,7 @@ returns c = record {
   in_order = c.in_ok-sorted.ensures;
   last = c.in_ok-last.last.items;
   end_line = rw (c.signature.ensures, c.names.ensures) at c.in_ok-last.ensures;
-  text_is = rw (c.in_ok-push_line.ensures, c.as_slice-2.ensures.value, c.in_ok-push_lines.ensures, c.as_slice.ensures.value, c.new-text.ensures.items)
+  text_is = rw (c.in_ok-push_line.ensures, c.as_slice-3.ensures.value, c.in_ok-push_lines.ensures, c.as_slice-2.ensures.value, c.in_ok-text.ensures.items)
       (sym (ended-append (bytes_of c.in_ok-sorted.sorted.items) (c.in_ok-last.last.items ∷ [])));
 }
 

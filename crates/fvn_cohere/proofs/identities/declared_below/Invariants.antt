@@ -2,7 +2,7 @@
 use Rattle.std.proofs.Common.{◌≡◌}
 use Rattle.std.specs.Prelude.{filter}
 use Rattle.fvn_forms.specs.SortOrder.{at_or_below}
-use Rattle.fvn_signature.specs.Collected.{first_sorts}
+use Rattle.fvn_signature.specs.FirstSorts.{first_sorts}
 use Rattle.fvn_cohere.proofs.identities.declared_below.Given as goal
 
 abbrev pub invariant-loop-n : goal.invariant-loop-n

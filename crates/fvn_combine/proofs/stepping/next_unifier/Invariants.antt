@@ -1,6 +1,6 @@
 -- The states are closed, the leaf is open, and what was ahead is ahead, and no more.
 use Rattle.std.proofs.Common.{◌≤◌}
-use Rattle.fvn_combine_nodes.specs.Trees.{AreClosed, AreInOrder, weight}
+use Rattle.fvn_combine_tree.specs.Trees.{AreClosed, AreInOrder, weight}
 use Rattle.fvn_combine.specs.Search.{IsOpenedAt}
 use Rattle.fvn_combine.specs.Work.{left_by}
 use Rattle.fvn_combine.specs.inner.Found.{IsAheadAsBefore}

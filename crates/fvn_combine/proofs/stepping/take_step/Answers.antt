@@ -3,7 +3,7 @@ use Rattle.std.proofs.Common.{◌≡◌, ◌≢◌, ℕ, refl, subst, zero-le, S
 use Rattle.fvn_combine.proofs.Less.{left_falls}
 use Rattle.fvn_combine.proofs.Ends.{coarser_first}
 use Rattle.fvn_combine.proofs.Trees.{after_asking, after_taking_on, closed_before, taken_out, taken_falls, after_passing, leaf_opened, after_opening}
-use Rattle.fvn_combine_nodes.specs.Trees.{IsAsked, IsTakenOn}
+use Rattle.fvn_combine_tree.specs.Trees.{IsAsked, IsTakenOn}
 use Rattle.fvn_combine.specs.Tasks.{Combining}
 use Rattle.fvn_combine.specs.inner.Found.{IsLooked}
 use Rattle.fvn_combine.specs.declared.looking.Looked.TheVariants.{Passed}

@@ -6,7 +6,7 @@ use Rattle.fvn_combine_admissible.proofs.Demands.{no_marks, one_mark, all_marks,
 use Rattle.fvn_combine_admissible.proofs.asking.marks_of.Goals as goal
 
 pub loop-j-init : goal.loop-j-init
-loop-j-init c = subst (AreMarksBelow c.args.sig.now c.args.reading.now c.args.tags.now c.args.sums.now 0) (sym c.new-marks.ensures.items) (no_marks c.args.sig.now c.args.reading.now c.args.tags.now c.args.sums.now)
+loop-j-init c = subst (AreMarksBelow c.args.sig.now c.args.reading.now c.args.tags.now c.args.sums.now 0) (sym c.in_ok-marks.ensures.items) (no_marks c.args.sig.now c.args.reading.now c.args.tags.now c.args.sums.now)
 
 pub loop-j-preserved : goal.loop-j-preserved
 loop-j-preserved c =

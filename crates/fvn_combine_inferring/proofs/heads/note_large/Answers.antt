@@ -26,7 +26,7 @@ loop-i-preserved c =
     let n = c.loop-i.invariant.heads.as_many in
     record {
       heads =
-          subst (TellHeads d t s sorted) (sym (c.note_head.ensures ∙ ap (λ k. set heads k (Some c.args.f)) c.class_of.ensures))
+          subst (TellHeads d t s sorted) (sym (c.note_head.ensures ∙ ap (λ k. set heads k (Some c.args.f)) c.class_of-in-loop-i.ensures))
           (more_heads d t s sorted heads (class_of s i) c.args.f (omega (arith, w, n)) c.loop-i.invariant.heads (large_joined d t s sorted c.args.f i (subst (λ g. HasTwoSummands d t s sorted g i) c.in_ok-addition.ensures.operator (c.in_ok-is_large.ensures c.if-not-branch.false))));
       sorted = c.loop-i.invariant.sorted;
     }

@@ -15,7 +15,7 @@ reduced-requires c =
     let n = is.splits.as_many in
     let m = ap length e in
     let here = name_within c.args.sig.now c.args.table.now c.args.state.now c.requires.closed c.args.i c.requires.within in
-    let named = c.class_of.ensures in
+    let named = c.class_of-in-Some.ensures in
     let both = split_within c.args.sig.now c.args.table.now c.args.state.now c.requires.closed c.recall_well_made.ensures a.operator (class_of c.args.state.now c.args.i) c.in-Some.p c.in-Some.ensures in
     let p = both.0 in
     let q = both.1 in
@@ -33,7 +33,7 @@ returns-in_ok-row-in-Some c =
     let s = c.args.state.now in
     let a = c.args.addition.now in
     let k = class_of s c.args.i in
-    let reduced = subst (λ l. IsReduced l a.unit k c.in-Some.p.0 c.in-Some.p.1 c.in_ok-row-in-Some.row) c.as_slice.ensures (subst (λ n. IsReduced c.as_slice.result.now a.unit n c.in-Some.p.0 c.in-Some.p.1 c.in_ok-row-in-Some.row) c.class_of.ensures c.in_ok-row-in-Some.ensures) in
+    let reduced = subst (λ l. IsReduced l a.unit k c.in-Some.p.0 c.in-Some.p.1 c.in_ok-row-in-Some.row) c.as_slice.ensures (subst (λ n. IsReduced c.as_slice.result.now a.unit n c.in-Some.p.0 c.in-Some.p.1 c.in_ok-row-in-Some.row) c.class_of-in-Some.ensures c.in_ok-row-in-Some.ensures) in
     record {
       sides = row_holds d t c.recall_well_made.ensures c.requires.sums s c.requires.closed a c.requires.addition k c.in-Some.p c.in-Some.ensures c.in_ok-row-in-Some.row reduced;
       left = side_within d t c.recall_well_made.ensures c.requires.sums s c.requires.closed a c.requires.addition c.in_ok-row-in-Some.row.left.items reduced.left;

@@ -1,10 +1,15 @@
--- What follows of what holds.
-use Rattle.fvn_combine_inferring.specs.inner.Sizes.{size, AreSaid}
-use Rattle.std.proofs.Common.{sym, subst}
+-- The operators of a reading are associative.
+use Rattle.std.proofs.Common.{sym, subst, Contains}
+use Rattle.std.proofs.lemmas.List.Elements.{Contains-get_or, All-nil}
+use Rattle.fvn_combine_leaves.proofs.ReadOfState.{sum_operator}
+use Rattle.fvn_combine_inferring.specs.inner.Sizes.{IsSaid, AreSaid, size}
 use Rattle.fvn_combine_inferring.proofs.sizes.insides.Goals as goal
 
-pub returns : goal.returns
-returns c values go =
-    let w = size c.args.state.now values in
-    let two = c.in_ok-two.ensures w (subst (AreSaid w) (sym c.as_slice-2.ensures.value) (c.in_ok-pairs.ensures values go)) in
-    c.in_ok-four.ensures w (subst (AreSaid w) (sym c.as_slice-3.ensures.value) two)
+pub loop-sums-init : goal.loop-sums-init
+loop-sums-init c values go = subst (AreSaid (size c.args.state.now values)) (sym c.new-list.ensures.items) (All-nil (IsSaid (size c.args.state.now values)))
+
+pub note_insides-requires-clause-associative : goal.note_insides-requires-clause-associative
+note_insides-requires-clause-associative c =
+    (sum_operator c.args.sig.now c.args.table.now c.recall_well_made.ensures c.args.state.now c.requires.closed c.args.reading.now c.requires.reading c.sums-item.result
+    (subst (λ l. Contains l c.sums-item.result) c.as_slice-sums-items.ensures
+    (subst (Contains c.as_slice-sums-items.result.now) (sym c.sums-item.is) (Contains-get_or c.as_slice-sums-items.result.now c.loop-sums.sums-index _ c.loop-sums-test.true)))).associative

@@ -1,6 +1,5 @@
 -- The pair at this place.
-use Rattle.std.proofs.Common.{arith}
 use Rattle.fvn_combine_inferring.proofs.sizes.is_circular.Goals as goal
 
-pub returns-then-says : goal.returns-then-says
-returns-then-says c t w h = let l = c.says.ensures c.if-says.true w (h c.loop-pair.pair-index _ c.loop-pair-test.true) in omega (arith, l)
+pub returns-then-begins_circle : goal.returns-then-begins_circle
+returns-then-begins_circle c t w h = c.begins_circle.ensures c.if-begins_circle.true w h (h c.loop-pair.pair-index _ c.loop-pair-test.true)

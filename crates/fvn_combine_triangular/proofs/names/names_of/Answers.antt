@@ -7,7 +7,7 @@ use Rattle.fvn_combine_triangular.proofs.Naming.{all_names}
 use Rattle.fvn_combine_triangular.proofs.names.names_of.Goals as goal
 
 pub loop-i-init : goal.loop-i-init
-loop-i-init c = record { number = omega arith; names = no_front no_name (IsNameAt c.args.sig.now c.args.table.now c.args.first) c.new-names.result.items c.new-names.ensures.items }
+loop-i-init c = record { number = omega arith; names = no_front no_name (IsNameAt c.args.sig.now c.args.table.now c.args.first) c.in_ok-names.names.items c.in_ok-names.ensures.items }
 
 pub loop-i-preserved : goal.loop-i-preserved
 loop-i-preserved c = record {

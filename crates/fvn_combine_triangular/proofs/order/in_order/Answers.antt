@@ -7,7 +7,7 @@ use Rattle.fvn_combine_triangular.proofs.Ordering.{nothing_placed, place_more, a
 use Rattle.fvn_combine_triangular.proofs.order.in_order.Goals as goal
 
 pub loop-i-init : goal.loop-i-init
-loop-i-init c = nothing_placed c.args.bindings.items c.new-placed.result.items c.new-placed.ensures.items c.requires
+loop-i-init c = nothing_placed c.args.bindings.items c.in_ok-placed.placed.items c.in_ok-placed.ensures.items c.requires
 
 pub loop-i-preserved : goal.loop-i-preserved
 loop-i-preserved c =

@@ -1,7 +1,7 @@
 -- A declaration is added where its code is new.
 use Rattle.std.proofs.Common.{◌≡◌, ◌<◌, length, map, sym, ap, subst, ◌∙◌, arith}
 use Rattle.std.specs.List.{All}
-use Rattle.fvn_signature.specs.declared.collected.Collected.{Collected}
+use Rattle.fvn_signature_draft.specs.declared.collected.Collected.{Collected}
 use Rattle.fvn_syntax.specs.Texts.{place_or_end}
 use Rattle.fvn_module_declarations.specs.inner.Codes.{code}
 use Rattle.fvn_module_declarations.specs.inner.Drafts.{declared}

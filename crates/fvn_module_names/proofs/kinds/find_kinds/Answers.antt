@@ -5,9 +5,10 @@ use Rattle.std.proofs.lemmas.List.{append-nil, append_assoc, map-append, length-
 use Rattle.std.proofs.lemmas.List.Elements.{All-push}
 use Rattle.std.proofs.lemmas.List.FromFn.{map-range_with_len_more, length-map-range_with_len}
 use Rattle.fvn_forms.specs.SortOrder.{sort_number}
-use Rattle.fvn_signature.specs.declared.collected.Collected.{Collected}
-use Rattle.fvn_signature.specs.Collected.{kind_of, first_sorts, parts_before, kinds}
-use Rattle.fvn_signature.proofs.Parts.{parts_before-le, kinds-length}
+use Rattle.fvn_signature.specs.FirstSorts.{first_sorts}
+use Rattle.fvn_signature_draft.specs.declared.collected.Collected.{Collected}
+use Rattle.fvn_signature_draft.specs.Collected.{kind_of, parts_before, kinds}
+use Rattle.fvn_signature_draft.proofs.Parts.{parts_before-le, kinds-length}
 use Rattle.fvn_module_names.specs.Order.{ordered}
 use Rattle.fvn_module_names.specs.inner.Numbering.{IsNumbered}
 use Rattle.fvn_module_names.proofs.kinds.find_kinds.Goals as goal

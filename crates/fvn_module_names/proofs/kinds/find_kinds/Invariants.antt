@@ -2,7 +2,8 @@
 use Rattle.std.proofs.Common.{◌≡◌, ◌++◌, ◌-◌, ◌<◌, map, length}
 use Rattle.std.specs.List.{All, range_with_len}
 use Rattle.fvn_forms.specs.SortOrder.{sort_number}
-use Rattle.fvn_signature.specs.Collected.{kind_of, first_sorts}
+use Rattle.fvn_signature.specs.FirstSorts.{first_sorts}
+use Rattle.fvn_signature_draft.specs.Collected.{kind_of}
 use Rattle.fvn_module_names.specs.Order.{ordered}
 use Rattle.fvn_module_names.proofs.kinds.find_kinds.Given as goal
 

@@ -1,7 +1,7 @@
 -- A sort has the kind that is known for its label, or else a new one.
 use Rattle.std.proofs.Common.{◌≡◌, ℕ, ◌<◌, length, get_or, Some, None, sym, subst, ◌∙◌, arith}
 use Rattle.std.proofs.lemmas.List.{length-set, get_or_default}
-use Rattle.fvn_signature.specs.declared.collected.Collected.{Collected}
+use Rattle.fvn_signature_draft.specs.declared.collected.Collected.{Collected}
 use Rattle.fvn_module_names.specs.inner.Classes.{label}
 use Rattle.fvn_module_names.specs.inner.Numbering.{HasLabels, IsNumbered}
 use Rattle.fvn_module_names.proofs.KindNumbers.{known_old, numbered_old, numbered_new}

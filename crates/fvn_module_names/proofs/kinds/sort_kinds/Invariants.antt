@@ -1,6 +1,6 @@
 -- The kinds of the first sorts.
 use Rattle.std.proofs.Common.{◌≡◌, ◌+◌, ◌≤◌, ℕ, length, get_or, None}
-use Rattle.fvn_signature.specs.declared.collected.Collected.{Collected}
+use Rattle.fvn_signature_draft.specs.declared.collected.Collected.{Collected}
 use Rattle.fvn_module_names.specs.inner.Numbering.{HasLabels, IsKnown, IsNumbered}
 use Rattle.fvn_module_names.proofs.kinds.sort_kinds.Given as goal
 

@@ -1,37 +1,14 @@
--- One turn more.
-use Rattle.std.proofs.Common.{◌+◌, arith}
+-- The first turn ends the search.
 use Rattle.fvn_theory.specs.Equations.{equations_of}
-use Rattle.fvn_rewrite.proofs.Reaching.{reached_more}
-use Rattle.fvn_rewrite.proofs.Ending.{form_end, unfinished_end, large_end}
+use Rattle.fvn_rewrite.proofs.Ending.{form_at_once, large_at_once}
 use Rattle.fvn_rewrite.proofs.normalising.normal.Goals as goal
 
-pub loop-reached-init : goal.loop-reached-init
-loop-reached-init c = let b = c.in_ok-begun.ensures in (b.count, b.spent, b.reached)
+pub returns-in_ok-form-in-Large : goal.returns-in_ok-form-in-Large
+returns-in_ok-form-in-Large c = large_at_once c.args.sig.now (equations_of c.args.rules.now.equations) c.args.t.now c.args.bounds c.in_ok-form-in-Large.form c.in_ok-form-in-Large.ensures c.requires.term (rw c.in-Large.is at c.in_ok-first.ensures)
 
-pub take_turn-requires : goal.take_turn-requires
-take_turn-requires c = record { term = c.loop-reached.invariant.2.fits; rules = c.requires.rules }
+pub returns-in_ok-form-in-Irreducible : goal.returns-in_ok-form-in-Irreducible
+returns-in_ok-form-in-Irreducible c =
+    form_at_once c.args.sig.now (equations_of c.args.rules.now.equations) c.args.t.now c.args.bounds c.in_ok-form-in-Irreducible.form c.in_ok-form-in-Irreducible.ensures c.requires.term (rw c.in-Irreducible.is at c.in_ok-first.ensures)
 
-pub loop-reached-preserved : goal.loop-reached-preserved
-loop-reached-preserved c =
-    let d = c.args.sig.now in
-    let E = equations_of c.args.rules.now.equations in
-    let k = c.loop-reached.invariant.0 in
-    (k + 1, omega (arith, c.loop-reached.invariant.1), reached_more d E c.rewriting_is_lawful.ensures k c.args.t.now c.loop-reached.reached c.in-Next.u c.loop-reached.invariant.2 (rw c.in-Next.is at c.in_ok-now.ensures).1)
-
-pub returns-in-Large : goal.returns-in-Large
-returns-in-Large c =
-    let d = c.args.sig.now in
-    let E = equations_of c.args.rules.now.equations in
-    large_end d E c.args.t.now c.args.bounds c.loop-reached.invariant.0 c.loop-reached.reached (omega (arith, c.loop-reached.invariant.1)) c.loop-reached.invariant.2 (rw c.in-Large.is at c.in_ok-now.ensures)
-
-pub returns-in-Irreducible : goal.returns-in-Irreducible
-returns-in-Irreducible c =
-    let d = c.args.sig.now in
-    let E = equations_of c.args.rules.now.equations in
-    form_end d E c.args.t.now c.args.bounds c.loop-reached.invariant.0 c.loop-reached.reached (omega (arith, c.loop-reached.invariant.1)) c.loop-reached.invariant.2 (rw c.in-Irreducible.is at c.in_ok-now.ensures)
-
-pub returns-then-spent : goal.returns-then-spent
-returns-then-spent c =
-    let d = c.args.sig.now in
-    let E = equations_of c.args.rules.now.equations in
-    unfinished_end d E c.args.t.now c.args.bounds c.loop-reached.invariant.0 c.in_ok-start-in-Next.start c.loop-reached.reached c.in-Next.u c.in_ok-start-in-Next.ensures (omega (arith, c.loop-reached.invariant.1, c.if-spent.true)) c.loop-reached.invariant.2 (rw c.in-Next.is at c.in_ok-now.ensures)
+pub reduced-requires : goal.reduced-requires
+reduced-requires c = record { term = c.requires.term; rules = c.requires.rules; next = rw c.in-Next.is at c.in_ok-first.ensures }

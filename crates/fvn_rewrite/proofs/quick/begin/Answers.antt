@@ -1,7 +1,7 @@
--- The laws, and the form itself.
-use Rattle.std.proofs.Common.{refl}
+-- The laws, and what one step leads to.
+use Rattle.std.proofs.Common.{◌-◌, refl, arith}
 use Rattle.fvn_theory.specs.Equations.{equations_of}
-use Rattle.fvn_rewrite.proofs.Beginning.{lawful, begun_itself}
+use Rattle.fvn_rewrite.proofs.Beginning.{lawful, begun_next}
 use Rattle.fvn_rewrite.proofs.quick.begin.Goals as goal
 
 pub quick-requires-clause-laws : goal.quick-requires-clause-laws
@@ -10,4 +10,6 @@ quick-requires-clause-laws c =
     c.kinded_theories_are_lawful.ensures
 
 pub returns : goal.returns
-returns c = begun_itself c.args.sig.now (equations_of c.args.rules.now.equations) c.args.t.now c.args.bounds.steps record { form = c.in_ok-form.form; left = c.args.bounds.steps } c.requires.term c.in_ok-form.ensures refl
+returns c =
+    begun_next c.args.sig.now (equations_of c.args.rules.now.equations) c.rewriting_is_lawful.ensures c.args.t.now c.args.next c.args.bounds.steps record { form = c.args.next; left = c.args.bounds.steps - 1 } c.requires.term c.requires.next refl
+    (omega (arith, c.requires.some))

@@ -1,7 +1,7 @@
 //! Reads the signatures of tests, with their names.
 ghost use Rattle.std.specs.Prelude.{◌<◌, All, IsTrue};
 ghost use Rattle.fvn_terms.specs.Signature.{IsSort};
-ghost use Rattle.fvn_signature.specs.Collected.{Names as Named};
+ghost use Rattle.fvn_signature_draft.specs.Collected.{Names as Named};
 ghost use Rattle.fvn_problems.specs.Scopes.{AreNamesOf};
 
 use fvn_base::Seq;

@@ -1,7 +1,7 @@
 -- Each sort so far is named.
 use Rattle.std.proofs.Common.{ℕ, ◌<◌, get_or}
 use Rattle.fvn_terms.specs.declared.plain.SortId.{SortId}
-use Rattle.fvn_signature.specs.Collected.{Names}
+use Rattle.fvn_signature_draft.specs.Collected.{Names}
 use Rattle.fvn_tests_samples.proofs.signatures.all_names.Given as goal
 
 abbrev pub invariant-loop-s : goal.invariant-loop-s

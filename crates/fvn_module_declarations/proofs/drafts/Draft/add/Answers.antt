@@ -2,7 +2,7 @@
 use Rattle.std.proofs.Common.{◌<◌, ◌≤◌, length, sym, ap, subst, ◌∙◌, arith}
 use Rattle.std.proofs.lemmas.List.{with_items_is}
 use Rattle.fvn_base.specs.declared.limits.TheConstants.{OPERATORS}
-use Rattle.fvn_signature.specs.declared.collected.Collected.{Collected}
+use Rattle.fvn_signature_draft.specs.declared.collected.Collected.{Collected}
 use Rattle.fvn_syntax.specs.Texts.{with_text}
 use Rattle.fvn_module_declarations.specs.inner.Drafts.{Draft}
 use Rattle.fvn_module_names.proofs.TextCounts.{length-with_text}

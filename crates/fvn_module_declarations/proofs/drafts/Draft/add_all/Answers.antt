@@ -1,7 +1,7 @@
 -- One more statement is declared.
 use Rattle.std.proofs.Common.{◌+◌, ◌∷◌, List, length, drop, sym, ap, ◌∙◌, arith}
 use Rattle.std.proofs.lemmas.List.{drop_more}
-use Rattle.fvn_signature.specs.declared.collected.Collected.{Collected}
+use Rattle.fvn_signature_draft.specs.declared.collected.Collected.{Collected}
 use Rattle.fvn_module_syntax.specs.declared.statement.Statement.{Statement}
 use Rattle.fvn_module_names.specs.Names.{operators_in, with_texts, with_names}
 use Rattle.fvn_module_declarations.specs.inner.Drafts.{Draft, with_all_operators}

@@ -1,6 +1,6 @@
 -- The table has the pair that is added.
 use Rattle.std.proofs.Common.{◌<◌, sym, subst}
-use Rattle.fvn_signature.specs.declared.collected.Collected.{Collected}
+use Rattle.fvn_signature_draft.specs.declared.collected.Collected.{Collected}
 use Rattle.fvn_module_declarations.proofs.PairTables.{table-more}
 use Rattle.fvn_module_declarations.proofs.pairs.PairBuilder.add.Goals as goal
 

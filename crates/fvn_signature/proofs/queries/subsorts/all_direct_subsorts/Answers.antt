@@ -1,7 +1,7 @@
 -- The lists of direct subsorts, with one sort more.
 use Rattle.std.proofs.Common.{sym}
 use Rattle.fvn_signature.specs.Queries.{direct_subsorts}
-use Rattle.fvn_signature.proofs.Parts.{map_sorts-more}
+use Rattle.fvn_signature.proofs.FirstSorts.{map_sorts-more}
 use Rattle.fvn_signature.proofs.queries.subsorts.all_direct_subsorts.Goals as goal
 
 pub loop-s-preserved : goal.loop-s-preserved

@@ -1,6 +1,6 @@
 -- The invariant of the lists of direct subsorts.
 use Rattle.std.proofs.Common.{◌≡◌, map}
-use Rattle.fvn_signature.specs.Collected.{first_sorts}
+use Rattle.fvn_signature.specs.FirstSorts.{first_sorts}
 use Rattle.fvn_signature.specs.Queries.{direct_subsorts}
 use Rattle.fvn_signature.proofs.queries.subsorts.all_direct_subsorts.Given as goal
 

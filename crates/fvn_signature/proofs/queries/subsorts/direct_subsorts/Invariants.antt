@@ -1,7 +1,7 @@
 -- The invariant of the list of direct subsorts.
 use Rattle.std.proofs.Common.{◌≡◌}
 use Rattle.std.specs.Prelude.{filter}
-use Rattle.fvn_signature.specs.Collected.{first_sorts}
+use Rattle.fvn_signature.specs.FirstSorts.{first_sorts}
 use Rattle.fvn_signature.specs.Queries.{is_direct}
 use Rattle.fvn_signature.proofs.queries.subsorts.direct_subsorts.Given as goal
 

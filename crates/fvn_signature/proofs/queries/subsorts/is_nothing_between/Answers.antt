@@ -2,7 +2,7 @@
 use Rattle.std.proofs.Common.{◌&&◌, not, sym, ap, ◌∙◌}
 use Rattle.fvn_terms.specs.declared.plain.SortId.{SortId}
 use Rattle.fvn_signature.specs.Queries.{is_below}
-use Rattle.fvn_signature.proofs.Parts.{all_from-true}
+use Rattle.fvn_signature.proofs.FirstSorts.{all_from-true}
 use Rattle.fvn_signature.proofs.queries.subsorts.is_nothing_between.Goals as goal
 
 pub loop-q-preserved : goal.loop-q-preserved

@@ -1,9 +1,9 @@
 -- The builder stays closed with one declaration more.
 use Rattle.std.proofs.Common.{◌≤◌, sym, subst}
 use Rattle.std.specs.List.{All}
-use Rattle.fvn_signature.specs.declared.collected.Declaration.{Declaration}
-use Rattle.fvn_signature.specs.declared.collected.Collected.{Collected}
-use Rattle.fvn_signature.specs.Collected.{Names}
+use Rattle.fvn_signature_draft.specs.declared.collected.Declaration.{Declaration}
+use Rattle.fvn_signature_draft.specs.declared.collected.Collected.{Collected}
+use Rattle.fvn_signature_draft.specs.Collected.{Names}
 use Rattle.fvn_sorts.proofs.CollectedSteps.{one_declaration_more}
 use Rattle.fvn_sorts.proofs.builder.SignatureBuilder.op.Goals as goal
 

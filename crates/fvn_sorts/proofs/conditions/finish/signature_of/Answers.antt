@@ -5,7 +5,7 @@ use Rattle.fvn_forms.specs.Good.{IsGood}
 use Rattle.fvn_signature.specs.Queries.{IsCompleted}
 use Rattle.fvn_sorts.specs.declared.conditions.fault.SigFault.{SigFault}
 use Rattle.fvn_sorts.specs.inner.Searches.{IsFirstFrom}
-use Rattle.fvn_signature.proofs.Components.{completed-is}
+use Rattle.fvn_signature_draft.proofs.Components.{completed-is}
 use Rattle.fvn_sorts.proofs.GoodFrom.{good_from}
 use Rattle.fvn_sorts.proofs.FaultOrder.{none_too_large, no_fault}
 use Rattle.fvn_sorts.proofs.conditions.finish.signature_of.Goals as goal

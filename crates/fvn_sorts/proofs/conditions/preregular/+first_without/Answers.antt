@@ -7,7 +7,7 @@ use Rattle.fvn_forms.specs.SortOrder.{sort_number}
 use Rattle.fvn_forms.proofs.SortTests.{same_sort-true}
 use Rattle.fvn_sorts.specs.inner.Searches.{IsFirstList, the_list, HasNoLowest}
 use Rattle.fvn_sorts.proofs.LowestResults.{NoneBefore, first_found, none_found, none_at_end, nil}
-use Rattle.fvn_signature.proofs.Parts.{positive}
+use Rattle.fvn_signature.proofs.FirstSorts.{positive}
 use Rattle.fvn_sorts.proofs.conditions.preregular.+first_without.Goals as goal
 
 pub returns-then-is_empty : goal.returns-then-is_empty

@@ -2,10 +2,10 @@
 use Rattle.std.proofs.Common.{◌≡◌, List, refl, sym, subst, ◌∙◌, arith}
 use Rattle.std.specs.List.{Contains}
 use Rattle.std.proofs.lemmas.Bool.{false≢true}
-use Rattle.fvn_signature.specs.declared.collected.Declaration.{Declaration}
-use Rattle.fvn_signature.specs.Collected.{declarations_of, same_op}
+use Rattle.fvn_signature_draft.specs.declared.collected.Declaration.{Declaration}
+use Rattle.fvn_signature_draft.specs.Collected.{declarations_of, same_op}
 use Rattle.fvn_base.proofs.Membership.{contains_filter}
-use Rattle.fvn_signature.proofs.Operators.{same_op-self}
+use Rattle.fvn_signature_draft.proofs.Operators.{same_op-self}
 use Rattle.fvn_sorts.proofs.ShapeLemmas.{differ_from_first, none_differ, same_axioms}
 use Rattle.fvn_sorts.proofs.conditions.shapes.axioms_differ.Goals as goal
 

@@ -3,7 +3,7 @@ use Rattle.std.proofs.Common.{inl, inr, arith}
 use Rattle.std.proofs.lemmas.Bool.{cases_lt, false≢true}
 use Rattle.fvn_sorts.specs.Faults.{HasFault}
 use Rattle.fvn_sorts.specs.inner.Searches.{fault_at}
-use Rattle.fvn_signature.proofs.Operators.{more_operators}
+use Rattle.fvn_signature_draft.proofs.Operators.{more_operators}
 use Rattle.fvn_sorts.proofs.ShapeLemmas.{nothing_fails}
 use Rattle.fvn_sorts.proofs.conditions.shapes.first_failing.Goals as goal
 

@@ -2,7 +2,7 @@
 use Rattle.std.proofs.Common.{◌≡◌, List, refl, sym, subst, arith}
 use Rattle.std.specs.List.{Any}
 use Rattle.std.proofs.lemmas.Bool.{false≢true}
-use Rattle.fvn_signature.specs.declared.collected.Declaration.{Declaration}
+use Rattle.fvn_signature_draft.specs.declared.collected.Declaration.{Declaration}
 use Rattle.fvn_sorts.specs.Faults.{HasBadShape}
 use Rattle.fvn_sorts.proofs.ShapeLemmas.{none_more}
 use Rattle.fvn_sorts.proofs.conditions.shapes.has_bad_declaration.Goals as goal

@@ -1,6 +1,6 @@
 -- The invariant of the search for a bad declaration.
 use Rattle.std.proofs.Common.{◌≡◌, ℕ, ◌<◌, get_or}
-use Rattle.fvn_signature.specs.declared.collected.Declaration.{Declaration}
+use Rattle.fvn_signature_draft.specs.declared.collected.Declaration.{Declaration}
 use Rattle.fvn_sorts.specs.Faults.{HasBadShape}
 use Rattle.fvn_sorts.proofs.conditions.shapes.has_bad_declaration.Given as goal
 

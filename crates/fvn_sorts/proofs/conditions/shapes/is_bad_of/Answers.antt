@@ -2,7 +2,7 @@
 use Rattle.std.proofs.Common.{sym, ap, ◌∙◌, not}
 use Rattle.std.proofs.lemmas.Bool.{false≢true, not-false, eq-eqb}
 use Rattle.fvn_terms.specs.declared.plain.OpId.{OpId}
-use Rattle.fvn_signature.proofs.Operators.{same_op-true}
+use Rattle.fvn_signature_draft.proofs.Operators.{same_op-true}
 use Rattle.fvn_sorts.proofs.conditions.shapes.is_bad_of.Goals as goal
 
 pub returns-then-ne : goal.returns-then-ne

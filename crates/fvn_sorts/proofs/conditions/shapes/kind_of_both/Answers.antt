@@ -3,7 +3,7 @@ use Rattle.std.proofs.Common.{[], ◌∷◌, length, refl, sym, ap, ◌∙◌}
 use Rattle.std.proofs.lemmas.Bool.{false≢true, eq-eqb}
 use Rattle.fvn_terms.specs.declared.plain.SortId.{SortId}
 use Rattle.fvn_terms.specs.Signature.{kind}
-use Rattle.fvn_signature.specs.Collected.{completed, meant_or_kind}
+use Rattle.fvn_signature_draft.specs.Collected.{completed, meant_or_kind}
 use Rattle.fvn_sorts.proofs.ShapeLemmas.{kinds_of_two, two_long, same_two}
 use Rattle.fvn_forms.proofs.SortTests.{same_sort-true}
 use Rattle.fvn_sorts.proofs.conditions.shapes.kind_of_both.Goals as goal

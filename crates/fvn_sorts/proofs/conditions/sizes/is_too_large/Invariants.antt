@@ -1,6 +1,6 @@
 -- The invariant of the search for a rank that is too long.
 use Rattle.std.proofs.Common.{ℕ, ◌<◌, length, get_or}
-use Rattle.fvn_signature.specs.declared.collected.Declaration.{Declaration}
+use Rattle.fvn_signature_draft.specs.declared.collected.Declaration.{Declaration}
 use Rattle.fvn_sorts.proofs.conditions.sizes.is_too_large.Given as goal
 
 -- no rank so far is too long

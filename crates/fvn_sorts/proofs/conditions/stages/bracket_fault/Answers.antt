@@ -2,10 +2,10 @@
 use Rattle.std.proofs.Common.{refl}
 use Rattle.fvn_sorts.specs.declared.conditions.brackets.Triple.{Triple}
 use Rattle.fvn_sorts.specs.declared.conditions.fault.SigFault.TheVariants.{NotAssocSorts}
-use Rattle.fvn_signature.specs.Collected.{op_number}
+use Rattle.fvn_signature_draft.specs.Collected.{op_number}
 use Rattle.fvn_sorts.specs.Faults.{HasBadBrackets, sort_numbers}
 use Rattle.fvn_sorts.specs.inner.Searches.{three_sorts}
-use Rattle.fvn_signature.proofs.Operators.{more_operators}
+use Rattle.fvn_signature_draft.proofs.Operators.{more_operators}
 use Rattle.fvn_sorts.proofs.AlikeLemmas.{alike_brackets}
 use Rattle.fvn_sorts.proofs.FaultOrder.{only, none_of_operators, first_of_operators}
 use Rattle.fvn_sorts.proofs.conditions.stages.bracket_fault.Goals as goal

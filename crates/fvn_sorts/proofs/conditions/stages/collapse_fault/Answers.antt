@@ -2,7 +2,7 @@
 use Rattle.fvn_terms.specs.declared.plain.SortId.{SortId}
 use Rattle.fvn_sorts.specs.declared.conditions.fault.SigFault.TheVariants.{NotCollapsing}
 use Rattle.fvn_sorts.specs.Faults.{HasBadCollapse}
-use Rattle.fvn_signature.proofs.Operators.{more_operators}
+use Rattle.fvn_signature_draft.proofs.Operators.{more_operators}
 use Rattle.fvn_sorts.proofs.FaultOrder.{only, none_of_operators}
 use Rattle.fvn_sorts.proofs.conditions.stages.collapse_fault.Goals as goal
 

@@ -1,6 +1,6 @@
 -- The kinds, one more.
 use Rattle.fvn_terms.specs.Signature.{kind}
-use Rattle.fvn_signature.proofs.MapSteps.{map_step}
+use Rattle.fvn_signature_draft.proofs.MapSteps.{map_step}
 use Rattle.fvn_sorts.proofs.conditions.stages.kinds_of_sorts.Goals as goal
 
 pub loop-s-preserved : goal.loop-s-preserved

@@ -2,10 +2,10 @@
 use Rattle.std.proofs.Common.{List, Option, refl, subst}
 use Rattle.fvn_terms.specs.declared.plain.SortId.{SortId}
 use Rattle.fvn_sorts.specs.declared.conditions.fault.SigFault.TheVariants.{NotPreregular}
-use Rattle.fvn_signature.specs.Collected.{op_number}
+use Rattle.fvn_signature_draft.specs.Collected.{op_number}
 use Rattle.fvn_sorts.specs.Faults.{HasNoResult, sort_numbers}
 use Rattle.fvn_sorts.specs.inner.Searches.{IsFirstList, the_list}
-use Rattle.fvn_signature.proofs.Operators.{more_operators}
+use Rattle.fvn_signature_draft.proofs.Operators.{more_operators}
 use Rattle.fvn_sorts.proofs.AlikeLemmas.{alike_no_result}
 use Rattle.fvn_sorts.proofs.FaultOrder.{only, none_of_operators, first_of_operators}
 use Rattle.fvn_sorts.proofs.conditions.stages.result_fault.Goals as goal

@@ -2,7 +2,7 @@
 use Rattle.std.proofs.Common.{◌<◌, sym, ◌∙◌}
 use Rattle.std.specs.Prelude.{IsTrue}
 use Rattle.fvn_combine_nodes.specs.States.{IsClosed}
-use Rattle.fvn_combine_nodes.specs.Trees.{weight}
+use Rattle.fvn_combine_tree.specs.Trees.{weight}
 use Rattle.fvn_tests_combine.proofs.Asking.{front_taken, holds_where_some, some_weaker}
 use Rattle.fvn_tests_combine.proofs.tests.counting.step.Goals as goal
 

@@ -1,5 +1,5 @@
 -- The states of the tree are closed; its weight falls.
-use Rattle.fvn_combine_nodes.specs.Trees.{weight, AreClosed}
+use Rattle.fvn_combine_tree.specs.Trees.{weight, AreClosed}
 use Rattle.fvn_tests_combine.proofs.tests.driving.push_states.Given as goal
 
 abbrev pub invariant-questions : goal.invariant-questions

@@ -2,9 +2,9 @@
 use Rattle.std.proofs.Common.{◌≡◌, ◌<◌, ◌≤◌, ℕ, List, length, map, ap, ◌∙◌, arith}
 use Rattle.fvn_terms.specs.declared.plain.SortId.{SortId}
 use Rattle.fvn_terms.specs.declared.declarations.Declarations.{Declarations}
-use Rattle.fvn_signature.specs.Collected.{first_sorts}
+use Rattle.fvn_signature.specs.FirstSorts.{first_sorts}
 use Rattle.fvn_signature.specs.Queries.{direct_subsorts}
-use Rattle.fvn_signature.proofs.Parts.{map_sorts-at, map_sorts-length}
+use Rattle.fvn_signature.proofs.FirstSorts.{map_sorts-at, map_sorts-length}
 use Rattle.fvn_signature.proofs.TableLemmas.{looked_up}
 use Rattle.fvn_signature.proofs.queries.signature.Signature.direct_of.Goals as goal
 use Rattle.fvn_signature.proofs.queries.signature.Signature.direct_of.Goals.{After-from}

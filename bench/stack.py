@@ -1,0 +1,137 @@
+#!/usr/bin/env python3
+"""Deep terms at each limit, by each command: the least stack with which the answer comes, and what comes with less of it or with
+less memory for the whole program.
+
+Over `./fvn` or the program behind --fvn. Each row is run with the usual stack of 8 MiB, with each of 100 to 1,024 KiB (`ulimit -s`,
+in steps of --step KiB), and with 2.4 to 8 MB of memory (`ulimit -v`, in steps of --space KB). A run that ends by a signal in place of
+an answer or of status 8 is told, with what was given to it. With --only WORD the rows whose name has the word.
+"""
+import argparse
+import collections
+import resource
+import subprocess
+import sys
+
+OPERATORS = ("fmod DEEP is sort S . op a : -> S . ops f g : S -> S . op _+_ : S S -> S [assoc comm] . op p : S S -> S . "
+             "op k : S S -> S [comm] . ")
+
+
+def module(statements=""):
+    return OPERATORS + statements + "endfm\n"
+
+
+def unary(n, leaf="a"):
+    return "g(" * n + leaf + ")" * n
+
+
+def left(n, op):
+    return ("%s(" % op) * n + "a" + ",a)" * n
+
+
+def right(n, op):
+    return ("%s(a," % op) * n + "a" + ")" * n
+
+
+def row_of(statement, *words):
+    return list(words), module(statement)
+
+
+BAGS = "fmod BAGS is sorts E M . subsort E < M . op mt : -> M . op g : M -> M . op __ : M M -> M [assoc comm id: mt] . endfm\n"
+COPIES = " /\\ ".join(["T:M =? " + unary(120, "__(X:M,Z:M)"), *("Y%d:M =? T:M" % i for i in range(20))])
+FALLING = "eq f(%s) = f(X:S) [variant] . " % unary(98, "X:S")
+EVEN = "eq g(g(a)) = a [variant] . "
+STEPS = "eq g(a) = a [variant] . "
+LARGE = "eq %s = %s [variant] . " % (unary(399, "X:S"), unary(398, "X:S"))
+
+# name: words and module
+ROWS = {
+    "check, sides of 400": row_of(LARGE, "check"),
+    "check, a left side of 100,000": row_of("eq %s = a [variant] . " % unary(100_000), "check"),
+    "check, 100,000 parentheses": row_of("eq %sg(a)%s = a [variant] . " % ("(" * 100_000, ")" * 100_000), "check"),
+    "check, pairs to the left": row_of("eq %s = a [variant] . " % left(199, "p"), "check"),
+    "check, commutative pairs to the right": row_of("eq %s = a [variant] . " % right(199, "k"), "check"),
+    "unify, a side of 399": row_of("", "unify", "X:S =? " + unary(398, "Y:S")),
+    "unify, two sides of 200": row_of("", "unify", "%s =? %s" % (unary(199, "X:S"), unary(199, "Y:S"))),
+    "unify, commutative pairs": row_of("", "unify", "%s =? %s" % (left(99, "k"), right(99, "k"))),
+    "unify, a side of 40,000": row_of("", "unify", "X:S =? " + unary(40_000, "Y:S")),
+    "unify, 40,000 parentheses": row_of("", "unify", "(" * 40_000 + "X:S" + ")" * 40_000 + " =? a"),
+    "variants, a term of 400": row_of(EVEN, "variants", unary(399, "X:S")),
+    "variants, 398 steps": row_of(STEPS, "variants", unary(398)),
+    "variants, two workers": row_of(EVEN, "variants", "--workers=2", unary(399, "X:S")),
+    "vunify, 398 steps": row_of(STEPS, "vunify", unary(398) + " =? X:S"),
+    "vunify, a side of 391": row_of("eq g(g(g(g(a)))) = a [variant] . ", "vunify", unary(390, "X:S") + " =? a"),
+    "verify, a term of 1,000": row_of("", "verify", "X:S =? X:S", "{X:S --> %s}" % unary(999)),
+    "verify, 499 steps": row_of(EVEN, "verify", "X:S =? X:S", "{X:S --> %s}" % unary(999)),
+    "verify, pairs to the left": row_of("", "verify", "X:S =? X:S", "{X:S --> %s}" % left(499, "p")),
+    "verify, commutative pairs to the right": row_of("", "verify", "X:S =? X:S", "{X:S --> %s}" % right(499, "k")),
+    "terminates, sides of 400": row_of(LARGE, "terminates", "g : 1 1"),
+    "work": (["work", "4"], ""),
+    "unify, 21 values of 120 symbols": (["unify", COPIES + " /\\ __(A:E,X:M) =? __(B:E,Z:M)"], BAGS),
+    "vunify, two values of 980 symbols": row_of(FALLING, "vunify", "--levels=12", "f(X:S) =? f(Y:S)"),
+}
+
+
+def run(fvn, asked, stack, space=None):
+    """The status and the text of a run with so many KiB of stack and of memory, or None where the program does not start."""
+    def limits():
+        resource.setrlimit(resource.RLIMIT_STACK, (stack << 10, stack << 10))
+        if space:
+            resource.setrlimit(resource.RLIMIT_AS, (space << 10, space << 10))
+    words, text = asked
+    try:
+        done = subprocess.run([fvn, *words], input=text.encode(), stdout=subprocess.PIPE, stderr=subprocess.DEVNULL, preexec_fn=limits)
+    except (OSError, subprocess.SubprocessError):
+        return None
+    return done.returncode, done.stdout
+
+
+def least(fvn, asked, want):
+    """The least stack with which this is answered, to 8 KiB."""
+    low, high = 32, 8_192
+    while high - low > 8:
+        middle = (low + high) // 2
+        if run(fvn, asked, middle) == want:
+            high = middle
+        else:
+            low = middle
+    return high
+
+
+def sorted_out(fvn, asked, want, limits):
+    """What comes under each of these limits, and how often."""
+    found, signals = collections.Counter(), []
+    for stack, space in limits:
+        got = run(fvn, asked, stack, space)
+        kind = ("not started" if got is None or got[0] == 127 else "answered" if got == want else "refused" if got == (8, b"")
+                else "signal" if got[0] < 0 else "otherwise")
+        found[kind] += 1
+        if kind in ("signal", "otherwise"):
+            signals.append(space or stack)
+    told = ", ".join("%s %d" % it for it in sorted(found.items()))
+    return told + (" (at %d to %d)" % (min(signals), max(signals)) if signals else ""), len(signals)
+
+
+def main():
+    args = argparse.ArgumentParser(description=__doc__)
+    args.add_argument("--fvn", default="./fvn")
+    args.add_argument("--only", default="")
+    args.add_argument("--step", type=int, default=50)
+    args.add_argument("--space", type=int, default=100)
+    asked = args.parse_args()
+    print("| input | status | least stack, KiB | stack of 100 to 1,024 KiB | memory of 2.4 to 8 MB |\n|---|---|---|---|---|")
+    bad = 0
+    for name, row in ROWS.items():
+        if asked.only not in name:
+            continue
+        want = run(asked.fvn, row, 8_192)
+        stacks = [(s, None) for s in [*range(100, 1_024, asked.step), 1_024]]
+        spaces = [(8_192, v) for v in range(2_400, 8_001, asked.space)]
+        in_stack, first = sorted_out(asked.fvn, row, want, stacks)
+        in_space, second = sorted_out(asked.fvn, row, want, spaces)
+        bad += first + second
+        print("| %s | %s | %d | %s | %s |" % (name, want[0], least(asked.fvn, row, want), in_stack, in_space), flush=True)
+    print("stack: %d runs by a signal or otherwise" % bad)
+    sys.exit(bad > 0)
+
+
+main()

@@ -1,0 +1,6 @@
+-- The numbers are the same so far.
+use Rattle.std.proofs.Common.{◌≡◌, take}
+use Rattle.fvn_combine_candidates.proofs.solving.are_same.Given as goal
+
+abbrev pub invariant-loop-i : goal.invariant-loop-i
+invariant-loop-i l = take l.i l.xs ≡ take l.i l.ys

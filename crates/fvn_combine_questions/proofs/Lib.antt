@@ -1,0 +1,6 @@
+-- Lemmas on questions.
+mod Swapping
+mod Walked
+mod Passing
+mod Carrying
+mod AskedOfLeaves

@@ -1,0 +1,3 @@
+-- The words of questions on states.
+pub mod Swaps
+pub mod inner

@@ -1,0 +1,4 @@
+-- What mirrors the code.
+pub mod Swaps
+pub mod Past
+pub mod Touched

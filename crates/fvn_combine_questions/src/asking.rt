@@ -1,0 +1,73 @@
+//! The next question of a state that is no leaf yet.
+ghost use Rattle.fvn_combine_nodes.specs.States.{IsClosed, class_of};
+ghost use Rattle.fvn_combine_leaves.specs.Bases.{AreBases};
+ghost use Rattle.fvn_combine_leaves.specs.Leaves.{IsNearLeaf, IsFirstQuestion, IsQuestion};
+ghost use Rattle.fvn_combine_leaves.specs.Readings.{IsReading};
+
+use crate::constants::constants_question;
+use crate::identities::identity_question;
+use crate::swaps::undecided;
+use crate::touched::open_touched;
+use fvn_base::Seq;
+use fvn_combine_leaves::Reading;
+use fvn_combine_nodes::{State, Table};
+use fvn_lindio::Solution;
+use fvn_signature::Signature;
+
+/// Two nodes of which it is open whether they are in one class, and on which it rests what classes are
+/// bound to, whatever sums have in common; none where all that is left to ask is whether classes are one
+/// that may be constants of one operator.
+///
+/// Commutative nodes come first, so that the classes are a partition before anything else is asked.
+pub fn first_question(
+    sig: &Signature,
+    table: &Table,
+    state: &State,
+    reading: &Reading,
+) -> Option<(usize, usize)>
+    requires closed { IsClosed sig.now table.now state.now }
+    requires reading { IsReading sig.now table.now (class_of state.now) reading.now }
+    ensures { IsFirstQuestion sig.now table.now state.now result }
+{
+    table.recall_well_made();
+    match undecided(sig, table, state) {
+        Some(pair) => Some(pair),
+        None => identity_question(table, state, reading),
+    }
+}
+
+/// A question on two classes that may be constants of one operator, whatever its minimal solutions are;
+/// none only where the state is a leaf. For operators whose minimal solutions are not known.
+pub fn question_on_all(
+    sig: &Signature,
+    table: &Table,
+    state: &State,
+    reading: &Reading,
+) -> Option<(usize, usize)>
+    requires near { IsNearLeaf sig.now table.now state.now }
+    requires reading { IsReading sig.now table.now (class_of state.now) reading.now }
+    ensures { IsQuestion sig.now table.now state.now result }
+{
+    table.recall_well_made();
+    let _sig = sig;
+    constants_question(state, reading)
+}
+
+/// A question on two classes that may be constants of one operator, and that one of its minimal
+/// solutions has both of; none only where the state is a leaf.
+pub fn question_on_touched(
+    sig: &Signature,
+    table: &Table,
+    state: &State,
+    reading: &Reading,
+    bases: &[Seq<Solution>],
+) -> Option<(usize, usize)>
+    requires near { IsNearLeaf sig.now table.now state.now }
+    requires reading { IsReading sig.now table.now (class_of state.now) reading.now }
+    requires bases { AreBases reading.now.sums bases.now }
+    ensures { IsQuestion sig.now table.now state.now result }
+{
+    table.recall_well_made();
+    let _sig = sig;
+    open_touched(state, reading, bases)
+}

@@ -1,0 +1,73 @@
+//! Questions whether shared classes have identities.
+ghost use Rattle.std.specs.Prelude.{◌≡◌, ℕ, ◌<◌, length, All};
+ghost use Rattle.fvn_combine_nodes.specs.States.{IsNaming};
+ghost use Rattle.fvn_combine_questions.specs.inner.Past.{IsOpenPairOr, IsPastIdentity, ArePastIdentities};
+ghost use Rattle.fvn_combine_leaves.specs.Users.{IsWholeSums, IsWhole, IsSharedIn};
+
+use fvn_combine_leaves::{Reading, Sums, is_shared, is_user};
+use fvn_combine_nodes::{State, Table};
+use fvn_terms::OpId;
+
+// A question whether class k has f's identity.
+fn open_identity(table: &Table, state: &State, f: OpId, k: usize) -> Option<(usize, usize)>
+    requires naming { IsNaming state.now }
+    requires whole { length state.now.names ≡ length table.now.nodes }
+    requires within { k < length state.now.names }
+    ensures { IsOpenPairOr state.now (IsPastIdentity table.now state.now f k) result }
+{
+    table.recall_well_made();
+    for (g, n) in table.units() {
+        if *g != f {
+            continue;
+        }
+        if state.is_open(k, *n) {
+            return Some((k, *n));
+        }
+    }
+    None
+}
+
+// A question whether class k has the identity of an operator that uses it.
+fn open_of_class(table: &Table, state: &State, sums: &[Sums], k: usize) -> Option<(usize, usize)>
+    requires naming { IsNaming state.now }
+    requires whole { length state.now.names ≡ length table.now.nodes }
+    requires sums { All (IsWholeSums (length state.now.names)) sums.now }
+    requires within { k < length state.now.names }
+    ensures { IsOpenPairOr state.now (ArePastIdentities table.now state.now sums.now k) result }
+{
+    for s in sums {
+        if !is_user(s, k) {
+            continue;
+        }
+        match open_identity(table, state, s.operator, k) {
+            None => {}
+            Some(pair) => return Some(pair),
+        }
+    }
+    None
+}
+
+// A question whether a shared class has the identity of an operator that uses it.
+pub(crate) fn identity_question(
+    table: &Table,
+    state: &State,
+    reading: &Reading,
+) -> Option<(usize, usize)>
+    requires naming { IsNaming state.now }
+    requires whole { length state.now.names ≡ length table.now.nodes }
+    requires reading { IsWhole (length state.now.names) reading.now }
+    ensures { IsOpenPairOr state.now ((k : ℕ) → k < length state.now.names → IsSharedIn reading.now k
+        → ArePastIdentities table.now state.now reading.now.sums k) result }
+{
+    let n = state.names.len();
+    for k in 0..n {
+        if !is_shared(reading, n, k) {
+            continue;
+        }
+        match open_of_class(table, state, reading.sums.as_slice(), k) {
+            None => {}
+            Some(pair) => return Some(pair),
+        }
+    }
+    None
+}

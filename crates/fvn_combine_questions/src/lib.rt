@@ -1,0 +1,12 @@
+//! The questions on a state until it is a leaf.
+#![tactic(auto)]
+
+mod asking;
+mod constants;
+mod identities;
+mod standing;
+mod swaps;
+mod touched;
+
+pub use asking::{first_question, question_on_all, question_on_touched};
+pub use swaps::undecided;

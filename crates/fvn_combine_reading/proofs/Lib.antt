@@ -1,0 +1,5 @@
+-- Lemmas on how states are read.
+mod Collected
+mod Marking
+mod Gathered
+mod Heading

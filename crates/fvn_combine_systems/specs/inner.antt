@@ -1,2 +1,0 @@
--- What mirrors the code.
-pub mod Collecting

@@ -1,6 +1,0 @@
--- Two sorts have one kind exactly where the order connects them.
-use Rattle.fvn_signature.proofs.Components.{kinds_are_components}
-use Rattle.fvn_signature.proofs.laws.kinds_are_components.Goals as goal
-
-pub returns : goal.returns
-returns c = kinds_are_components

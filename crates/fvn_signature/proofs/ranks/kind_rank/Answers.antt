@@ -1,7 +1,0 @@
--- The arguments' kinds, one more.
-use Rattle.fvn_terms.specs.Signature.{kind}
-use Rattle.fvn_signature.proofs.MapSteps.{map_step}
-use Rattle.fvn_signature.proofs.ranks.kind_rank.Goals as goal
-
-pub loop-s-preserved : goal.loop-s-preserved
-loop-s-preserved c = rw c.in_ok-push.ensures.items (map_step (kind c.args.declarations.now) c.as_slice-s-items.result.now c.loop-s.s-index c.loop-s.args.items _ c.loop-s-test.true c.loop-s.invariant c.kind.ensures)
