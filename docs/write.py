@@ -20,6 +20,7 @@ The words come from the sources: the `//!` line of a crate, the `///` line of a 
 clauses, the `--` lines over a definition and at the head of a file. To change a document, change them.
 """
 
+import functools
 import re
 import sys
 from pathlib import Path
@@ -82,7 +83,26 @@ This page is written by `docs/write.py` from the sources.
 
 
 def read(path):
-    return path.read_text(encoding="utf-8")
+    """A file's text; of a source, with what it cites through a crate that passes it on under the names where it stands."""
+    text = path.read_text(encoding="utf-8")
+    return re.sub(r"Rattle\.(\w+)\.(specs|proofs)\.(\w+)", original, text) if path.suffix in (".rt", ".antt") else text
+
+
+@functools.cache
+def passed_on():
+    """The modules of crates below that a crate passes on: where each stands, by crate, part and name there."""
+    found = {}
+    for path in CRATES.glob("*/*/Lib.antt"):
+        lines = re.finditer(r"^pub use (Rattle\.[\w.]+\.)(\w+)(?: as (\w+))?$", path.read_text(encoding="utf-8"), re.M)
+        for line in lines:
+            found[path.parts[-3], path.parts[-2], line.group(3) or line.group(2)] = line.group(1) + line.group(2)
+    return found
+
+
+def original(name):
+    """The name, where it stands, of what is named through a crate that passes it on."""
+    at = passed_on().get((name.group(1), name.group(2), name.group(3)))
+    return re.sub(r"Rattle\.(\w+)\.(specs|proofs)\.(\w+)", original, at) if at else name.group(0)
 
 
 def cell(text):
@@ -974,6 +994,22 @@ def readers_below():
                     yield "crates.txt: " + name + " stands on " + below + ", which knows of texts"
 
 
+MOST_PATHS = 450_000
+
+
+def many_paths():
+    """Whether more paths lead down from the crates than the gate bears, which reads a crate's files once for each path to it."""
+    uses = dict(re.findall(r"^(fvn\w*):(.*)$", read(TOP / "crates.txt"), re.M))
+
+    @functools.cache
+    def paths(name):
+        return 1 + sum(paths(below) for below in uses[name].split() if below in uses)
+
+    number = sum(map(paths, uses))
+    if number > MOST_PATHS:
+        yield f"crates.txt: {number} paths lead down from its crates: have a crate pass on what others need of those below it"
+
+
 def main(words):
     if words == ["--lint"]:
         missing = [
@@ -1002,7 +1038,7 @@ def main(words):
         if path not in written:
             print(str(path.relative_to(TOP)) + " is the page of no layer")
             status = 1
-    for find in (borrowed, mirrors_under_report, readers_below, untold_fields, unknown_rungs) if words else ():
+    for find in (borrowed, mirrors_under_report, readers_below, many_paths, untold_fields, unknown_rungs) if words else ():
         for line in find():
             print(line)
             status = 1

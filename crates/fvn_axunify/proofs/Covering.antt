@@ -9,8 +9,8 @@ use Rattle.fvn_flat.specs.Bindings.{Bindings, value, BindingsFit}
 use Rattle.fvn_flat.specs.Problems.{variables_of}
 use Rattle.fvn_flat.specs.Solving.{substitution, problem_of}
 use Rattle.fvn_flat.specs.declared.solver.Pairs.{Pairs}
-use Rattle.fvn_combine_choices.specs.Covering.{CoversOnKinds}
-use Rattle.fvn_combine_drawing.specs.OnKinds.{IsGivenOnKinds}
+use Rattle.fvn_combine.specs.CombineChoicesCovering.{CoversOnKinds}
+use Rattle.fvn_combine.specs.CombineDrawingOnKinds.{IsGivenOnKinds}
 use Rattle.fvn_cover.specs.declared.variant.Variant.{Variant}
 use Rattle.fvn_refine.specs.Refinements.{IsAtSorts, IsLargest, HaveTheirSorts, AreRefinements, IsCoveredOnKinds}
 use Rattle.fvn_refine.specs.Laws.{RefinementsCover}

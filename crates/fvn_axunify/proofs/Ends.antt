@@ -14,8 +14,8 @@ use Rattle.fvn_flat.specs.declared.solver.Pairs.{Pairs}
 use Rattle.fvn_flat.specs.declared.solver.SolveEnd.{SolveEnd}
 use Rattle.fvn_flat.specs.declared.solver.SolveEnd.TheVariants.{Complete, Basis, Unifiers, Size}
 use Rattle.fvn_flat.specs.declared.solver.SizeCause.TheVariants.{Problem, Binding, Term}
-use Rattle.fvn_combine_choices.specs.Covering.{CoversOnKinds}
-use Rattle.fvn_combine_drawing.specs.OnKinds.{IsGivenOnKinds}
+use Rattle.fvn_combine.specs.CombineChoicesCovering.{CoversOnKinds}
+use Rattle.fvn_combine.specs.CombineDrawingOnKinds.{IsGivenOnKinds}
 use Rattle.fvn_combine.specs.Search.{Search}
 use Rattle.fvn_combine.specs.Coarser.{IsFinerToCome, Joins, JoinsMore}
 use Rattle.fvn_combine.specs.Advancing.{IsOf, IsToCome, IsGivenNext}

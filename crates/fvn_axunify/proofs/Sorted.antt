@@ -31,7 +31,7 @@ use Rattle.fvn_flat.proofs.VariableLists.{variables_list, variables_occur}
 use Rattle.fvn_refine.specs.Refinements.{Way, at_sort, IsAtSorts, AreBound, HaveKindsAsSorts, IsLargest, HaveTheirSorts}
 use Rattle.fvn_refine.proofs.Refined.{occurring_sort, kinded_value, canon_value}
 use Rattle.fvn_refine.proofs.AtSorts.{sorts_flat, value_at_sorts}
-use Rattle.fvn_combine_drawing.specs.OnKinds.{IsGivenOnKinds}
+use Rattle.fvn_combine.specs.CombineDrawingOnKinds.{IsGivenOnKinds}
 use Rattle.fvn_axunify.specs.inner.Asked.{IsAsked}
 use Rattle.fvn_axunify.specs.inner.Members.{IsMember}
 use Rattle.fvn_axunify.proofs.SameValues.{apply_equal}

@@ -11,7 +11,7 @@ use Rattle.fvn_flat.specs.declared.solver.Solved.{Solved}
 use Rattle.fvn_flat.specs.declared.solver.SolveEnd.{SolveEnd}
 use Rattle.fvn_flat.specs.declared.solver.SolveEnd.TheVariants.{Complete, Basis, Unifiers, Size}
 use Rattle.fvn_flat.specs.declared.solver.SizeCause.TheVariants.{Problem, Binding, Term}
-use Rattle.fvn_combine_choices.specs.Covering.{CoversOnKinds}
+use Rattle.fvn_combine.specs.CombineChoicesCovering.{CoversOnKinds}
 use Rattle.fvn_combine.specs.Search.{Search}
 use Rattle.fvn_combine.specs.Advancing.{IsOf, IsToCome, IsGivenNext, IsAdvanced, AreGiven}
 use Rattle.fvn_combine.specs.declared.ending.CombineEnd.TheVariants.{Basis as OfBasis, Size as OfSize}

@@ -1,6 +1,6 @@
 //! Lists of unifiers of which none is an instance of another.
 ghost use Rattle.std.specs.Prelude.{◌≡◌, ◌≤◌, ◌<◌, length, map, IfOk, All};
-ghost use Rattle.fvn_combine_drawing.specs.OnKinds.{IsGivenOnKinds};
+ghost use Rattle.fvn_combine.specs.CombineDrawingOnKinds.{IsGivenOnKinds};
 ghost use Rattle.fvn_axunify.specs.inner.Asked.{IsAsked};
 ghost use Rattle.fvn_axunify.specs.inner.Members.{IsMember, AreKept, IsWith, IsWithEach, IsWithAll};
 

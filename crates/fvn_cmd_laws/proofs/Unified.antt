@@ -14,10 +14,10 @@ use Rattle.fvn_cmd.specs.declared.status.Status.{Status}
 use Rattle.fvn_cmd.specs.declared.status.Status.TheVariants.{Nothing}
 use Rattle.fvn_cmd.specs.Statuses.{IsAnswering}
 use Rattle.fvn_cmd.specs.Headline.{AreAll}
-use Rattle.fvn_cmd_unify.specs.Asked.{pairs_of, Unifies, IsInstanceOf, CannotBeUnified, unifiers_of}
+use Rattle.fvn_cmd_vunify.specs.CmdUnifyAsked.{pairs_of, Unifies, IsInstanceOf, CannotBeUnified, unifiers_of}
 use Rattle.fvn_cmd.specs.Ends.{status_of_end}
-use Rattle.fvn_cmd_unify.specs.Ends.{IsCauseOf, StaysWithinBounds}
-use Rattle.fvn_cmd_unify.specs.Solutions.{Found, IsWhole, IsSolution}
+use Rattle.fvn_cmd_vunify.specs.CmdUnifyEnds.{IsCauseOf, StaysWithinBounds}
+use Rattle.fvn_cmd_vunify.specs.CmdUnifySolutions.{Found, IsWhole, IsSolution}
 use Rattle.fvn_cmd_laws.specs.Unified.{IsNothingExact, HasFewUnifiers, IsCountOfUnifiers}
 use Rattle.fvn_cmd_laws.specs.Laws.{AnswersAreExact}
 

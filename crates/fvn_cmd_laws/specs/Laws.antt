@@ -15,8 +15,8 @@ use Rattle.fvn_cmd_check.specs.Checks.{told_lines, TellsSorts}
 use Rattle.fvn_cmd_verify.specs.Verdicts.{IsVerdictOn, TellsVerdict}
 use Rattle.fvn_cmd_terminates.specs.Weighings.{TellsWeighing}
 use Rattle.fvn_cmd.specs.Ends.{status_of_end}
-use Rattle.fvn_cmd_unify.specs.Ends.{StaysWithinBounds}
-use Rattle.fvn_cmd_unify.specs.Solutions.{Found, IsWhole, IsSolution}
+use Rattle.fvn_cmd_vunify.specs.CmdUnifyEnds.{StaysWithinBounds}
+use Rattle.fvn_cmd_vunify.specs.CmdUnifySolutions.{Found, IsWhole, IsSolution}
 use Rattle.fvn_cmd_laws.specs.Unified.{IsNothingExact, HasFewUnifiers, IsCountOfUnifiers}
 use Rattle.fvn_cmd_laws.specs.Verified.{AreOneIfConfluent, IsDecided, AllStayWithin, IsVerdictExact}
 use Rattle.fvn_cmd_words.specs.declared.reach.Reach.{Reach}

@@ -11,8 +11,8 @@ use Rattle.fvn_answer.specs.declared.end.End.TheVariants.{Complete}
 use Rattle.fvn_cmd.specs.declared.status.Status.{Status}
 use Rattle.fvn_cmd.specs.declared.status.Status.TheVariants.{Nothing}
 use Rattle.fvn_cmd.specs.Causes.{HasNoBasis, IsTooLarge}
-use Rattle.fvn_cmd_unify.specs.Asked.{Unifies, IsInstanceOf, CannotBeUnified, flattened, AreFlattened}
-use Rattle.fvn_cmd_unify.specs.Solutions.{Found}
+use Rattle.fvn_cmd_vunify.specs.CmdUnifyAsked.{Unifies, IsInstanceOf, CannotBeUnified, flattened, AreFlattened}
+use Rattle.fvn_cmd_vunify.specs.CmdUnifySolutions.{Found}
 
 module _ (m : Contents) (p : Problem) where
   -- Nothing comes exactly at `complete 0`, and only where no substitution unifies; where none does, there is no line

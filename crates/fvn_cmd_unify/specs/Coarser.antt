@@ -7,7 +7,7 @@ use Rattle.fvn_flat.specs.Solving.{problem_of}
 use Rattle.fvn_flat.specs.declared.solver.Pairs.{Pairs}
 use Rattle.fvn_problems.specs.declared.problem.Problem.{Problem}
 use Rattle.fvn_module.specs.Contents.{Contents}
-use Rattle.fvn_combine.specs.Coarser.{IsEndedAt, Joins, JoinsMore}
+use Rattle.fvn_axunify.specs.CombineCoarser.{IsEndedAt, Joins, JoinsMore}
 use Rattle.fvn_cmd_unify.specs.Asked.{Unifies, IsInstanceOf, AreFlattened}
 
 -- The search came to a partition of the terms of the problem in flat form under which f's sum system is refused, and each

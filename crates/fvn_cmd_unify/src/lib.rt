@@ -8,6 +8,7 @@ mod pairs;
 mod replying;
 mod searching;
 
+pub use fvn_axunify::{AxiomUnify, SolveLimits};
 pub use laws::{lines_denote_unifiers, shown_lines_keep_the_promise};
 pub use lines::lines_of;
 pub use pairs::flattened;

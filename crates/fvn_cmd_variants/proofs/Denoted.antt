@@ -23,7 +23,7 @@ use Rattle.fvn_flat.specs.Solving.{substitution}
 use Rattle.fvn_flat.specs.Variables.{listed}
 use Rattle.fvn_rewrite_laws.specs.Laws.{SequenceLaws, ListLaws}
 use Rattle.fvn_rewrite_laws.proofs.Lists.{list_before}
-use Rattle.fvn_axunify.proofs.SameValues.{apply_equal}
+use Rattle.fvn_cmd_unify.proofs.AxunifySameValues.{apply_equal}
 use Rattle.fvn_syntax.specs.Pieces.{Text}
 use Rattle.fvn_problems.specs.declared.query.Query.{Query}
 use Rattle.fvn_problems.specs.Queries.{HasVariables}

@@ -3,15 +3,14 @@ ghost use Rattle.std.specs.Prelude.{IfOk};
 ghost use Rattle.fvn_fold.specs.Starts.{IsStartable};
 ghost use Rattle.fvn_cmd_exploring.specs.Searches.{IsExploredBy, IsModuleSolver, IsSearchable, IsSearched};
 
-use fvn_axunify::{AxiomUnify, SolveLimits};
 use fvn_base::limits::{TERM_SYMBOLS, UNIFIERS};
 use fvn_closure::explorations_are_lawful;
-use fvn_cmd_exploring::Search;
+use fvn_cmd_exploring::{Narrower, Search};
+use fvn_cmd_unify::{AxiomUnify, SolveLimits};
 use fvn_cover::Gate;
 use fvn_exploring::Explored;
 use fvn_flat::{AxiomSolver, Flat};
 use fvn_fold::explore;
-use fvn_narrow::Narrower;
 use fvn_terms::NoMemory;
 use fvn_theory::Bounds;
 use std::thread::Threads;

@@ -3,14 +3,13 @@ ghost use Rattle.std.specs.Prelude.{IfOk};
 ghost use Rattle.fvn_cmd_exploring.specs.Searches.{IsModuleSolver, IsSearchable};
 ghost use Rattle.fvn_cmd_vunify.specs.inner.Steps.{AreSides, IsSolvedBy, IsSolvedIn};
 
-use fvn_axunify::{AxiomUnify, SolveLimits};
 use fvn_base::limits::{TERM_SYMBOLS, UNIFIERS};
 use fvn_closure::explorations_are_lawful;
-use fvn_cmd_exploring::Search;
+use fvn_cmd_exploring::{Narrower, Search};
+use fvn_cmd_unify::{AxiomUnify, SolveLimits};
 use fvn_cover::Gate;
 use fvn_flat::{AxiomSolver, Pairs};
 use fvn_fold::explore;
-use fvn_narrow::Narrower;
 use fvn_terms::NoMemory;
 use fvn_theory::Bounds;
 use fvn_vunify::{SolvedModulo, sides_of, variant_unify};

@@ -16,11 +16,11 @@ use Rattle.fvn_combine_systems.specs.Laws.{TablesAreSmall}
 use Rattle.fvn_combine_leaves.specs.Readings.{IsReading}
 use Rattle.fvn_combine_leaves.specs.declared.reading.Reading.{Reading}
 use Rattle.fvn_acunify_product.specs.Wheels.{Odometer, Wheel, IsChoice, PendingChoices}
-use Rattle.fvn_combine_admissible.specs.Listed.{tag_in}
+use Rattle.fvn_combine_drawing.specs.CombineAdmissibleListed.{tag_in}
 use Rattle.fvn_combine_leaves.specs.Bases.{AreBases}
-use Rattle.fvn_combine_candidates.specs.Turning.{AreWheels}
-use Rattle.fvn_combine_candidates.specs.declared.sharing.SharedClass.{SharedClass}
-use Rattle.fvn_combine_triangular.specs.Ready.{AreListed}
+use Rattle.fvn_combine_drawing.specs.CombineCandidatesTurning.{AreWheels}
+use Rattle.fvn_combine_drawing.specs.CombineCandidatesDeclared.sharing.SharedClass.{SharedClass}
+use Rattle.fvn_combine_drawing.specs.CombineTriangularReady.{AreListed}
 use Rattle.fvn_combine.specs.Tasks.{Combining, IsCombining}
 use Rattle.fvn_combine.specs.Leaves.{IsTurning, IsCoveredBy, IsCoveredUnder}
 use Rattle.fvn_combine.specs.declared.opened.Turning.{Turning}

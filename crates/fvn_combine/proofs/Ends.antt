@@ -16,7 +16,7 @@ use Rattle.fvn_combine_systems.specs.NodeSystems.{IsNodeSystem}
 use Rattle.fvn_combine_leaves.specs.Leaves.{IsLeaf}
 use Rattle.fvn_combine_leaves.specs.Readings.{AreSums, IsReading}
 use Rattle.fvn_combine_leaves.specs.declared.reading.Reading.{Reading}
-use Rattle.fvn_combine_candidates.specs.Refusals.{IsFirstRefused}
+use Rattle.fvn_combine_drawing.specs.CombineCandidatesRefusals.{IsFirstRefused}
 use Rattle.fvn_combine.specs.Tasks.{Combining}
 use Rattle.fvn_combine.specs.Search.{Search, IsEnd, IsRefusedAt, HasNoQuestion, HasNoChoiceAt, IsAdmitted, IsCoveredAt, PartsNodesOf, AdmitsOrIsParted}
 use Rattle.fvn_combine.specs.Endings.{told_of}

@@ -19,11 +19,11 @@ use Rattle.fvn_combine_leaves.specs.declared.reading.Reading.{Reading}
 use Rattle.fvn_acunify_product.specs.Weight.{product}
 use Rattle.fvn_acunify_product.specs.Wheels.{Wheel, counts_of}
 use Rattle.fvn_combine_leaves.specs.Bases.{AreBases}
-use Rattle.fvn_combine_candidates.specs.Laws.{SumOperatorsAreFew}
-use Rattle.fvn_combine_candidates.specs.Sharing.{AreSharedClasses, classes_of}
-use Rattle.fvn_combine_candidates.specs.Tags.{tag_counts}
-use Rattle.fvn_combine_candidates.specs.Turning.{AreWheels}
-use Rattle.fvn_combine_candidates.specs.declared.sharing.SharedClass.{SharedClass}
+use Rattle.fvn_combine_drawing.specs.CombineCandidatesLaws.{SumOperatorsAreFew}
+use Rattle.fvn_combine_drawing.specs.CombineCandidatesSharing.{AreSharedClasses, classes_of}
+use Rattle.fvn_combine_drawing.specs.CombineCandidatesTags.{tag_counts}
+use Rattle.fvn_combine_drawing.specs.CombineCandidatesTurning.{AreWheels}
+use Rattle.fvn_combine_drawing.specs.CombineCandidatesDeclared.sharing.SharedClass.{SharedClass}
 use Rattle.fvn_combine.specs.Tasks.{Combining}
 use Rattle.fvn_combine.specs.Work.{most_tags, most_numbers, left_at, left_by}
 use Rattle.fvn_combine.specs.declared.opened.Leaf.{Leaf}

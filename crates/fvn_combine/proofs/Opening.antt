@@ -13,16 +13,16 @@ use Rattle.fvn_combine_leaves.specs.declared.reading.Reading.{Reading}
 use Rattle.fvn_acunify_product.specs.Tags.{Tagging, IsOption, PendingTags}
 use Rattle.fvn_combine_choices.specs.Choosing.{Choice}
 use Rattle.fvn_combine_choices.specs.Plans.{AreOfOneKind}
-use Rattle.fvn_combine_admissible.specs.Listed.{systems_of}
-use Rattle.fvn_combine_complete.specs.Laws.{ReadingsTell}
-use Rattle.fvn_combine_bounds.specs.Laws.{SortedLeavesCover}
-use Rattle.fvn_combine_candidates.specs.Laws.{BasesMakeSystems, CoveringChoicesAreListed}
-use Rattle.fvn_combine_candidates.specs.Sharing.{AreSharedClasses}
-use Rattle.fvn_combine_candidates.specs.Tags.{tag_counts}
-use Rattle.fvn_combine_candidates.specs.declared.sharing.SharedClass.{SharedClass}
+use Rattle.fvn_combine_drawing.specs.CombineAdmissibleListed.{systems_of}
+use Rattle.fvn_combine_drawing.specs.CombineCompleteLaws.{ReadingsTell}
+use Rattle.fvn_combine_drawing.specs.CombineBoundsLaws.{SortedLeavesCover}
+use Rattle.fvn_combine_drawing.specs.CombineCandidatesLaws.{BasesMakeSystems, CoveringChoicesAreListed}
+use Rattle.fvn_combine_drawing.specs.CombineCandidatesSharing.{AreSharedClasses}
+use Rattle.fvn_combine_drawing.specs.CombineCandidatesTags.{tag_counts}
+use Rattle.fvn_combine_drawing.specs.CombineCandidatesDeclared.sharing.SharedClass.{SharedClass}
 use Rattle.fvn_combine_inferring.specs.Laws.{SortedUnifiersGoWith}
 use Rattle.fvn_combine_inferring.specs.declared.heads.Known.{Known}
-use Rattle.fvn_combine_triangular.specs.Ready.{IsReady}
+use Rattle.fvn_combine_drawing.specs.CombineTriangularReady.{IsReady}
 use Rattle.fvn_combine.specs.Tasks.{Combining, IsCombining}
 use Rattle.fvn_combine.specs.Leaves.{IsSortedCovering, IsOpened, IsCoveredToCome}
 use Rattle.fvn_combine.specs.declared.opened.Opened.{Opened}

@@ -9,8 +9,8 @@ use Rattle.fvn_combine_nodes.specs.States.{class_of}
 use Rattle.fvn_combine_nodes.specs.Unifiers.{value_at}
 use Rattle.fvn_combine_nodes.specs.declared.state.State.{State}
 use Rattle.fvn_acunify_product.specs.Tags.{Tagging, PendingTags, tags_left}
-use Rattle.fvn_combine_candidates.specs.Sharing.{IsSharedClass}
-use Rattle.fvn_combine_candidates.specs.Tags.{AreTags}
+use Rattle.fvn_combine_drawing.specs.CombineCandidatesSharing.{IsSharedClass}
+use Rattle.fvn_combine_drawing.specs.CombineCandidatesTags.{AreTags}
 use Rattle.fvn_combine_inferring.specs.Sorted.{GoWithSorts}
 use Rattle.fvn_combine.specs.Tasks.{Combining}
 use Rattle.fvn_combine.specs.Leaves.{IsCoveredBy, IsCoveredLater, IsCoveredToCome, IsOpened}

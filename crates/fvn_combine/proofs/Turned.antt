@@ -11,10 +11,10 @@ use Rattle.fvn_combine_nodes.specs.States.{class_of}
 use Rattle.fvn_combine_nodes.specs.declared.state.State.{State}
 use Rattle.fvn_acunify_product.specs.Tags.{Tagging, PendingTags, tags_left}
 use Rattle.fvn_acunify_product.specs.Wheels.{Odometer, IsChoice, PendingChoices, choices_left}
-use Rattle.fvn_combine_admissible.specs.Listed.{tag_in, choice_of}
-use Rattle.fvn_combine_candidates.specs.Laws.{ListedChoicesArePossible, SortedChoicesAreWithin}
-use Rattle.fvn_combine_candidates.specs.Tags.{AreTags}
-use Rattle.fvn_combine_candidates.specs.Turning.{AreWheels, HaveBounds}
+use Rattle.fvn_combine_drawing.specs.CombineAdmissibleListed.{tag_in, choice_of}
+use Rattle.fvn_combine_drawing.specs.CombineCandidatesLaws.{ListedChoicesArePossible, SortedChoicesAreWithin}
+use Rattle.fvn_combine_drawing.specs.CombineCandidatesTags.{AreTags}
+use Rattle.fvn_combine_drawing.specs.CombineCandidatesTurning.{AreWheels, HaveBounds}
 use Rattle.fvn_combine.specs.Tasks.{Combining, IsCombining}
 use Rattle.fvn_combine.specs.Leaves.{IsSortedCovering, IsTurning, IsCoveredLater, IsCoveredToCome, IsOpened}
 use Rattle.fvn_combine.specs.declared.opened.Turning.{Turning}

@@ -13,19 +13,19 @@ use Rattle.fvn_combine_leaves.specs.declared.reading.Reading.{Reading}
 use Rattle.fvn_acunify_product.specs.Tags.{PendingTags}
 use Rattle.fvn_acunify_product.specs.Wheels.{PendingChoices}
 use Rattle.fvn_combine_choices.specs.Choosing.{Choice}
-use Rattle.fvn_combine_admissible.specs.Listed.{tag_in, systems_of, choice_of}
-use Rattle.fvn_combine_complete.specs.CoveringChoices.{IsCovering}
-use Rattle.fvn_combine_complete.specs.Obeying.{ObeyTags}
-use Rattle.fvn_combine_bounds.specs.Narrow.{KeepsBounds}
+use Rattle.fvn_combine_drawing.specs.CombineAdmissibleListed.{tag_in, systems_of, choice_of}
+use Rattle.fvn_combine_drawing.specs.CombineCompleteCoveringChoices.{IsCovering}
+use Rattle.fvn_combine_drawing.specs.CombineCompleteObeying.{ObeyTags}
+use Rattle.fvn_combine_drawing.specs.CombineBoundsNarrow.{KeepsBounds}
 use Rattle.fvn_combine_leaves.specs.Bases.{AreBases}
-use Rattle.fvn_combine_candidates.specs.Sharing.{AreSharedClasses}
-use Rattle.fvn_combine_candidates.specs.Tags.{tag_counts, AreTags}
-use Rattle.fvn_combine_candidates.specs.Turning.{AreWheels}
+use Rattle.fvn_combine_drawing.specs.CombineCandidatesSharing.{AreSharedClasses}
+use Rattle.fvn_combine_drawing.specs.CombineCandidatesTags.{tag_counts, AreTags}
+use Rattle.fvn_combine_drawing.specs.CombineCandidatesTurning.{AreWheels}
 use Rattle.fvn_combine_inferring.specs.Inferred.{TellHeads}
 use Rattle.fvn_combine_inferring.specs.Sorted.{GoWithSorts}
-use Rattle.fvn_combine_triangular.specs.Ready.{IsReady}
+use Rattle.fvn_combine_drawing.specs.CombineTriangularReady.{IsReady}
 use Rattle.fvn_combine.specs.Tasks.{Combining}
-use Rattle.fvn_combine_candidates.specs.declared.sharing.SharedClass.{SharedClass}
+use Rattle.fvn_combine_drawing.specs.CombineCandidatesDeclared.sharing.SharedClass.{SharedClass}
 use Rattle.fvn_combine.specs.declared.opened.Turning.{Turning}
 use Rattle.fvn_combine.specs.declared.opened.Opened.{Opened}
 

@@ -10,8 +10,8 @@ use Rattle.fvn_flat.specs.Solving.{IsGiven, problem_of, symbols_of_pairs}
 use Rattle.fvn_flat.specs.SolvedLists.{IsKindUnifier}
 use Rattle.fvn_flat.specs.declared.solver.Pairs.{Pairs}
 use Rattle.fvn_combine_nodes.specs.Table.{NodeTable, IsWellMade, IsTableOf}
-use Rattle.fvn_combine_bounds.specs.Narrow.{KeepsSorts}
-use Rattle.fvn_combine_triangular.specs.Ready.{AreVariablesOf}
+use Rattle.fvn_combine_drawing.specs.CombineBoundsNarrow.{KeepsSorts}
+use Rattle.fvn_combine_drawing.specs.CombineTriangularReady.{AreVariablesOf}
 
 -- the problem in its signature, with its table, the variables of this, the first number of a new variable, the most symbols of a value,
 -- and whether the sorts of the problem's variables are heeded

@@ -2,7 +2,7 @@
 ghost use Rattle.std.specs.Prelude.{◌≡◌, ◌≢◌, ◌<◌, length, Some, All, Any, Contains, IsTrue};
 ghost use Rattle.fvn_combine.specs.inner.Against.{IsAgainst};
 
-use fvn_combine_candidates::SharedClass;
+use fvn_combine_drawing::SharedClass;
 use fvn_combine_nodes::has_no_identity;
 use fvn_signature::Signature;
 use fvn_terms::OpId;

@@ -3,7 +3,7 @@ ghost use Rattle.std.specs.Prelude.{◌≡◌, IfOk};
 ghost use Rattle.fvn_combine.specs.Endings.{IsToldBy};
 
 use fvn_base::Seq;
-use fvn_combine_admissible::copied_system;
+use fvn_combine_drawing::copied_system;
 use fvn_flat::{Flat, SolvedList};
 use fvn_lindio::System;
 use fvn_terms::{NoMemory, OpId, Var};

@@ -5,8 +5,8 @@ ghost use Rattle.fvn_combine_choices.specs.Plans.{AreOfOneKind};
 ghost use Rattle.fvn_combine.specs.inner.Alike.{IsOfItsKind};
 
 use crate::task::Task;
+use fvn_combine_drawing::node_kind;
 use fvn_combine_nodes::State;
-use fvn_combine_triangular::node_kind;
 
 // Whether the node that names the class of node i is of its kind.
 fn is_of_its_kind(task: &Task, state: &State, i: usize) -> bool

@@ -6,7 +6,7 @@ ghost use Rattle.fvn_combine_leaves.specs.Bases.{AreBases};
 ghost use Rattle.fvn_combine_leaves.specs.Leaves.{IsNearLeaf, IsLeaf};
 ghost use Rattle.fvn_combine_leaves.specs.Readings.{IsReading};
 ghost use Rattle.fvn_combine_choices.specs.Plans.{AreOfOneKind};
-ghost use Rattle.fvn_combine_candidates.specs.Refusals.{IsFirstRefused};
+ghost use Rattle.fvn_combine_drawing.specs.CombineCandidatesRefusals.{IsFirstRefused};
 ghost use Rattle.fvn_combine_inferring.specs.Inferred.{TellHeads};
 ghost use Rattle.fvn_combine.specs.inner.Found.{IsLooked, IsLookedAt};
 
@@ -14,12 +14,11 @@ use crate::kinds::are_of_one_kind;
 use crate::opened::{Opened, open};
 use crate::task::Task;
 use fvn_base::Seq;
-use fvn_combine_bounds::sorted_leaves_cover;
-use fvn_combine_candidates::{
-    OpenFault, SolvedSystems, bases, bases_from_last, bases_make_systems, refusals_are_causes,
-};
 use fvn_combine_choices::classes_have_one_kind;
-use fvn_combine_complete::{readings_tell, tables_have_sums};
+use fvn_combine_drawing::{
+    OpenFault, SolvedSystems, bases, bases_from_last, bases_make_systems, readings_tell,
+    refusals_are_causes, sorted_leaves_cover, tables_have_sums,
+};
 use fvn_combine_inferring::{Inferred, Known, differ, infer, known_of, sorted_unifiers_go_with};
 use fvn_combine_leaves::Reading;
 use fvn_combine_nodes::State;

@@ -7,14 +7,14 @@ ghost use Rattle.fvn_combine_leaves.specs.Readings.{IsReading};
 ghost use Rattle.fvn_combine_choices.specs.Choosing.{Choice as InChoice};
 ghost use Rattle.fvn_combine_leaves.specs.Bases.{AreBases};
 ghost use Rattle.fvn_combine_inferring.specs.Inferred.{TellHeads};
-ghost use Rattle.fvn_combine_triangular.specs.Ready.{IsReady};
+ghost use Rattle.fvn_combine_drawing.specs.CombineTriangularReady.{IsReady};
 ghost use Rattle.fvn_combine.specs.Leaves.{IsSortedCovering, IsOpened, IsCoveredToCome};
 ghost use Rattle.fvn_combine.specs.Work.{most_tags, most_numbers, leaf_left};
 
 use crate::task::Task;
 use fvn_acunify_product::{Tags, Wheels};
 use fvn_base::Seq;
-use fvn_combine_candidates::{
+use fvn_combine_drawing::{
     SharedClass, covering_choices_are_listed, option_counts, shared, sum_operators_are_few,
 };
 use fvn_combine_inferring::Known;

@@ -4,9 +4,9 @@ ghost use Rattle.fvn_base.specs.declared.limits.TheConstants.{TERM_SYMBOLS};
 ghost use Rattle.fvn_flat.specs.Solving.{IsGiven, symbols_of_pairs};
 ghost use Rattle.fvn_combine.specs.Tasks.{IsCombining};
 
+use fvn_combine_drawing::variables;
 use fvn_combine_nodes::Table;
 use fvn_combine_tree::table_of;
-use fvn_combine_triangular::variables;
 use fvn_flat::Pairs;
 use fvn_signature::Signature;
 use fvn_terms::{NoMemory, Var};

@@ -4,8 +4,8 @@ ghost use Rattle.fvn_terms.specs.Substitution.{Substitution};
 ghost use Rattle.fvn_combine_nodes.specs.States.{class_of};
 ghost use Rattle.fvn_combine_leaves.specs.Readings.{IsReading};
 ghost use Rattle.fvn_combine_leaves.specs.Bases.{AreBases};
-ghost use Rattle.fvn_combine_candidates.specs.Sharing.{AreSharedClasses};
-ghost use Rattle.fvn_combine_triangular.specs.Ready.{IsReady};
+ghost use Rattle.fvn_combine_drawing.specs.CombineCandidatesSharing.{AreSharedClasses};
+ghost use Rattle.fvn_combine_drawing.specs.CombineTriangularReady.{IsReady};
 ghost use Rattle.fvn_combine.specs.Leaves.{IsTurning, IsOpened, IsCoveredUnder, IsCoveredNow, IsCoveredToCome};
 ghost use Rattle.fvn_combine.specs.Search.{IsCoveredAt, IsOpenedAt};
 ghost use Rattle.fvn_combine.specs.inner.Found.{AreDrawnFrom, IsSameButCurrent, IsTurned, LeavesLess};
@@ -16,11 +16,10 @@ use crate::against::go_against;
 use crate::opened::{Leaf, Opened, Turning};
 use crate::task::Task;
 use fvn_base::Seq;
-use fvn_combine_candidates::{
-    SharedClass, listed_choices_are_possible, sorted_choices_are_within, sum_operators_are_few,
-    tags_of, wheels,
+use fvn_combine_drawing::{
+    Drawn, SharedClass, draw, listed_choices_are_possible, sorted_choices_are_within,
+    sum_operators_are_few, tags_of, wheels,
 };
-use fvn_combine_drawing::{Drawn, draw};
 use fvn_combine_leaves::Reading;
 use fvn_combine_nodes::State;
 use fvn_combine_systems::tables_are_small;

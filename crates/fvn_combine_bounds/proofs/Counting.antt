@@ -9,7 +9,7 @@ use Rattle.fvn_forms.specs.InOrder.{SameCounts}
 use Rattle.fvn_forms.specs.Canon.{parts}
 use Rattle.fvn_forms.proofs.InOrder.{sort_same_counts, length_sort}
 use Rattle.fvn_flat.specs.SolvedLists.{component}
-use Rattle.fvn_combine_choices.specs.Choosing.{taken, member_count}
+use Rattle.fvn_combine_complete.specs.CombineChoicesChoosing.{taken, member_count}
 use Rattle.fvn_combine_complete.specs.LaidOut.{copies, laid_for}
 use Rattle.fvn_combine_bounds.specs.Laws.{TakenSolutionsStandForSummands}
 

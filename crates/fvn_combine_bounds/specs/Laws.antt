@@ -17,7 +17,7 @@ use Rattle.fvn_combine_nodes.specs.States.{Admits, class_of}
 use Rattle.fvn_combine_nodes.specs.Unifiers.{value_at, kernel}
 use Rattle.fvn_combine_nodes.specs.declared.state.State.{State}
 use Rattle.fvn_combine_leaves.specs.Leaves.{IsLeaf, IsSumOperator, Uses, IsShared}
-use Rattle.fvn_combine_choices.specs.Choosing.{Systems, Choice, AreSystems, member_count}
+use Rattle.fvn_combine_complete.specs.CombineChoicesChoosing.{Systems, Choice, AreSystems, member_count}
 use Rattle.fvn_combine_complete.specs.CoveringChoices.{IsCovering}
 use Rattle.fvn_combine_complete.specs.Neutral.{IsNeutral}
 use Rattle.fvn_combine_complete.specs.Obeyed.{AreObeying}

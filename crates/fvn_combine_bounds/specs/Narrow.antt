@@ -15,7 +15,7 @@ use Rattle.fvn_combine_nodes.specs.Unifiers.{kernel}
 use Rattle.fvn_combine_nodes.specs.declared.state.State.{State}
 use Rattle.fvn_combine_nodes.specs.declared.table.Node.TheVariants.{Var}
 use Rattle.fvn_combine_leaves.specs.Leaves.{IsSumOperator, Uses, IsShared}
-use Rattle.fvn_combine_choices.specs.Choosing.{Systems, Choice, member_count}
+use Rattle.fvn_combine_complete.specs.CombineChoicesChoosing.{Systems, Choice, member_count}
 use Rattle.fvn_combine_complete.specs.Neutral.{IsNeutral}
 use Rattle.fvn_sort_bounds.specs.Admitting.{AdmitsSum, AdmitsIdentity}
 

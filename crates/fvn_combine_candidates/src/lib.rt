@@ -13,6 +13,8 @@ mod tagging;
 mod turning;
 
 pub use aliases::leave_no_alias;
+pub use fvn_combine_bounds::sorted_leaves_cover;
+pub use fvn_combine_complete::{readings_tell, tables_have_sums};
 pub use last_first::bases_from_last;
 pub use laws::{
     bases_make_systems, covering_choices_are_listed, listed_choices_are_possible, lists_cover,

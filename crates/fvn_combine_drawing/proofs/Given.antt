@@ -23,7 +23,7 @@ use Rattle.fvn_combine_choices.specs.Choosing.{Systems, Choice, AreSystems, IsPo
 use Rattle.fvn_combine_choices.specs.Covering.{CoversOnKinds}
 use Rattle.fvn_combine_choices.specs.Laws.{IsPlanned, PlannedBindingsAreSolved, PlannedBindingsUnfoldToNew}
 use Rattle.fvn_combine_choices.specs.Plans.{unfolds_to}
-use Rattle.fvn_combine_complete.specs.CoveringChoices.{IsCovering}
+use Rattle.fvn_combine_candidates.specs.CombineCompleteCoveringChoices.{IsCovering}
 use Rattle.fvn_combine_triangular.specs.Ready.{IsReady, ArePlanned, AreVariablesOf}
 use Rattle.fvn_combine_triangular.proofs.Planned.{planned as as_planned, variables_exact}
 use Rattle.fvn_combine_drawing.specs.OnKinds.{IsNewFrom, IsGivenOnKinds}

@@ -14,8 +14,8 @@ use Rattle.fvn_combine_leaves.specs.Readings.{IsReading}
 use Rattle.fvn_combine_leaves.specs.declared.reading.Reading.{Reading}
 use Rattle.fvn_combine_choices.specs.Choosing.{IsPossible}
 use Rattle.fvn_acunify_product.specs.Wheels.{IsChoice}
-use Rattle.fvn_combine_admissible.specs.Listed.{tag_in, systems_of, choice_of}
-use Rattle.fvn_combine_complete.specs.Full.{IsFull}
+use Rattle.fvn_combine_triangular.specs.CombineAdmissibleListed.{tag_in, systems_of, choice_of}
+use Rattle.fvn_combine_candidates.specs.CombineCompleteFull.{IsFull}
 use Rattle.fvn_combine_leaves.specs.Bases.{AreBases}
 use Rattle.fvn_combine_candidates.specs.Laws.{ListedChoicesArePossible}
 use Rattle.fvn_combine_candidates.specs.Turning.{LeaveNoAlias, AreWithin}

@@ -7,7 +7,7 @@ use Rattle.fvn_lindio.specs.declared.system.Solution.{Solution}
 use Rattle.fvn_combine_nodes.specs.Table.{NodeTable}
 use Rattle.fvn_combine_leaves.specs.declared.reading.Reading.{Reading}
 use Rattle.fvn_acunify_product.specs.Wheels.{Wheel, IsChoice}
-use Rattle.fvn_combine_admissible.specs.Listed.{tag_in}
+use Rattle.fvn_combine_triangular.specs.CombineAdmissibleListed.{tag_in}
 use Rattle.fvn_combine_candidates.specs.Sharing.{AreSharedClasses}
 use Rattle.fvn_combine_candidates.specs.Tags.{AreTags}
 use Rattle.fvn_combine_candidates.specs.Turning.{AreWheels}

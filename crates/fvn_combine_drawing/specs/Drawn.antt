@@ -10,7 +10,7 @@ use Rattle.fvn_combine_nodes.specs.Table.{NodeTable}
 use Rattle.fvn_combine_nodes.specs.declared.state.State.{State}
 use Rattle.fvn_combine_choices.specs.Choosing.{Systems, Choice}
 use Rattle.fvn_combine_choices.specs.Covering.{CoversOnKinds}
-use Rattle.fvn_combine_complete.specs.CoveringChoices.{IsCovering}
+use Rattle.fvn_combine_candidates.specs.CombineCompleteCoveringChoices.{IsCovering}
 use Rattle.fvn_combine_drawing.specs.OnKinds.{IsGivenOnKinds}
 use Rattle.fvn_combine_drawing.specs.declared.drawing.Drawn.{Drawn}
 use Rattle.fvn_combine_drawing.specs.declared.drawing.Drawn.TheVariants.{Nothing, TooLarge, Unifier}

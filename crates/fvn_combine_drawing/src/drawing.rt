@@ -2,7 +2,7 @@
 ghost use Rattle.std.specs.Prelude.{◌-◌, ◌^◌, ◌<◌, IfOk};
 ghost use Rattle.fvn_combine_nodes.specs.States.{class_of};
 ghost use Rattle.fvn_combine_leaves.specs.Readings.{IsReading};
-ghost use Rattle.fvn_combine_admissible.specs.Listed.{systems_of, choice_of};
+ghost use Rattle.fvn_combine_triangular.specs.CombineAdmissibleListed.{systems_of, choice_of};
 ghost use Rattle.fvn_combine_leaves.specs.Bases.{AreBases};
 ghost use Rattle.fvn_combine_triangular.specs.Ready.{IsReady, AreListed, AreVariablesOf};
 ghost use Rattle.fvn_combine_drawing.specs.Choices.{IsListedChoice};

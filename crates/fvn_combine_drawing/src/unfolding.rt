@@ -2,11 +2,11 @@
 ghost use Rattle.std.specs.Prelude.{◌-◌, ◌^◌, ◌<◌, All, IfOk};
 ghost use Rattle.fvn_terms.specs.Signature.{IsSort};
 ghost use Rattle.fvn_flat.specs.SolvedLists.{IsTriangular};
-ghost use Rattle.fvn_combine_unfolding.specs.Sizes.{IsFitting, AddUp};
+ghost use Rattle.fvn_combine_triangular.specs.CombineUnfoldingSizes.{IsFitting, AddUp};
 ghost use Rattle.fvn_combine_drawing.specs.inner.Unfolded.{IsUnfoldedFrom};
 
 use crate::drawing::Drawn;
-use fvn_combine_unfolding::{is_too_large, unfold};
+use fvn_combine_triangular::{is_too_large, unfold};
 use fvn_flat::SolvedList;
 use fvn_signature::Signature;
 use fvn_terms::{NoMemory, Var};

@@ -16,8 +16,8 @@ use Rattle.fvn_forms.proofs.Sums.{sum_parts, sum_same_counts}
 use Rattle.fvn_combine_nodes.specs.Table.{NodeTable, IsWellMade}
 use Rattle.fvn_combine_nodes.specs.States.{IsClosed, class_of, is_same}
 use Rattle.fvn_combine_nodes.specs.declared.state.State.{State}
-use Rattle.fvn_combine_choices.specs.Tables.{HasSums}
-use Rattle.fvn_combine_complete.specs.Obeying.{GoWith}
+use Rattle.fvn_combine_bounds.specs.CombineChoicesTables.{HasSums}
+use Rattle.fvn_combine_bounds.specs.CombineCompleteObeying.{GoWith}
 use Rattle.fvn_combine_inferring.specs.Inferred.{HaveTwoValues}
 use Rattle.fvn_combine_inferring.specs.Rows.{summands, times, many, HaveSameSummands, HasSummand}
 use Rattle.fvn_combine_inferring.specs.inner.Bounds.{HasTwoSummands, IsPart}

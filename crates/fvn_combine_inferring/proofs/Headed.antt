@@ -9,7 +9,7 @@ use Rattle.fvn_forms.specs.Flat.{FlatTerm, fvar, fapp, fnone, fmore, funpack, fc
 use Rattle.fvn_forms.specs.Canon.{same_op, is_identity, parts}
 use Rattle.fvn_forms.proofs.Sums.{same_op_is}
 use Rattle.fvn_flat.specs.Forms.{head_of}
-use Rattle.fvn_combine_complete.specs.Obeying.{IsSumOf}
+use Rattle.fvn_combine_bounds.specs.CombineCompleteObeying.{IsSumOf}
 
 -- a form that g heads is one summand under f, where g is neither f nor its identity
 pub headed_part : (d : Declarations) (f g : OpId) → g ≢ f → identity (axioms d f) ≢ Some g → (v : FlatTerm) → head_of v ≡ Some g → parts d f v ≡ v ∷ []

@@ -12,8 +12,8 @@ use Rattle.fvn_combine_nodes.specs.Table.{NodeTable}
 use Rattle.fvn_combine_nodes.specs.States.{IsClosed, class_of}
 use Rattle.fvn_combine_nodes.specs.declared.state.State.{State}
 use Rattle.fvn_combine_leaves.specs.Readings.{AreHeads}
-use Rattle.fvn_combine_choices.specs.Tables.{HasSums}
-use Rattle.fvn_combine_complete.specs.Obeying.{IsSumOf}
+use Rattle.fvn_combine_bounds.specs.CombineChoicesTables.{HasSums}
+use Rattle.fvn_combine_bounds.specs.CombineCompleteObeying.{IsSumOf}
 use Rattle.fvn_combine_inferring.specs.Sorted.{GoWithSorts}
 use Rattle.fvn_combine_inferring.specs.Rows.{many, AreSides}
 use Rattle.fvn_combine_inferring.specs.inner.Bounds.{HasTwoSummands}

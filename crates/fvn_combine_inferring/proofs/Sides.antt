@@ -9,8 +9,8 @@ use Rattle.fvn_forms.specs.Canon.{parts}
 use Rattle.fvn_combine_nodes.specs.Table.{NodeTable, IsWellMade}
 use Rattle.fvn_combine_nodes.specs.States.{IsClosed, class_of}
 use Rattle.fvn_combine_nodes.specs.declared.state.State.{State}
-use Rattle.fvn_combine_choices.specs.Tables.{HasSums}
-use Rattle.fvn_combine_complete.specs.Obeying.{GoWith}
+use Rattle.fvn_combine_bounds.specs.CombineChoicesTables.{HasSums}
+use Rattle.fvn_combine_bounds.specs.CombineCompleteObeying.{GoWith}
 use Rattle.fvn_combine_inferring.specs.Rows.{times, AreSides}
 use Rattle.fvn_combine_inferring.specs.declared.expressions.Addition.{Addition}
 use Rattle.fvn_combine_inferring.specs.declared.rows.Row.{Row}

@@ -21,8 +21,8 @@ use Rattle.fvn_forms.proofs.Sizes.{all_symbols, all_symbols-sort, some_nodes, sy
 use Rattle.fvn_combine_nodes.specs.Table.{NodeTable, IsWellMade}
 use Rattle.fvn_combine_nodes.specs.States.{IsClosed, class_of}
 use Rattle.fvn_combine_nodes.specs.declared.state.State.{State}
-use Rattle.fvn_combine_choices.specs.Tables.{HasSums}
-use Rattle.fvn_combine_complete.specs.Obeying.{GoWith}
+use Rattle.fvn_combine_bounds.specs.CombineChoicesTables.{HasSums}
+use Rattle.fvn_combine_bounds.specs.CombineCompleteObeying.{GoWith}
 use Rattle.fvn_combine_inferring.specs.Inferred.{HasNoValues, HaveTwoValues}
 use Rattle.fvn_combine_inferring.specs.Rows.{summands, times, many, HasFewSummands}
 use Rattle.fvn_combine_inferring.specs.inner.Bounds.{HaveSummands}

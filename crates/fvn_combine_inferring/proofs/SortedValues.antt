@@ -1,5 +1,5 @@
 -- The values of a unifier have the summands that the sorts of the problem's variables allow.
-use Rattle.fvn_combine_complete.specs.Laws.{UnifiersGoWith}
+use Rattle.fvn_combine_bounds.specs.CombineCompleteLaws.{UnifiersGoWith}
 use Rattle.fvn_combine_bounds.specs.Narrow.{IsSortedAt}
 use Rattle.fvn_combine_bounds.specs.Laws.{NarrowClassesHaveOneSummand, OtherClassesHaveSomeSummand}
 use Rattle.fvn_combine_inferring.specs.Laws.{SortedUnifiersGoWith}

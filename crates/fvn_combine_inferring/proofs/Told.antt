@@ -21,7 +21,7 @@ use Rattle.fvn_combine_nodes.specs.Table.{NodeTable}
 use Rattle.fvn_combine_nodes.specs.States.{IsClosed, class_of, is_same, is_apart, is_open}
 use Rattle.fvn_combine_nodes.specs.declared.state.State.{State}
 use Rattle.fvn_combine_nodes.proofs.Admitting.{decided}
-use Rattle.fvn_combine_choices.specs.Tables.{HasSums}
+use Rattle.fvn_combine_bounds.specs.CombineChoicesTables.{HasSums}
 use Rattle.fvn_combine_inferring.specs.Sorted.{GoWithSorts}
 use Rattle.fvn_combine_inferring.specs.Inferred.{HasNoValues, HaveOneValue}
 use Rattle.fvn_combine_inferring.specs.Rows.{summands, times, many, HaveSameSummands, AreSides, HasFewSummands, IsSummand, IsAmong}

@@ -23,8 +23,8 @@ use Rattle.fvn_combine_nodes.proofs.Admitting.{named_within}
 use Rattle.fvn_combine_nodes.proofs.Nodes.{arguments_within}
 use Rattle.fvn_combine_nodes.proofs.Heading.{some_part, build_head}
 use Rattle.fvn_combine_leaves.specs.Leaves.{IsSolid}
-use Rattle.fvn_combine_choices.specs.Tables.{HasSums}
-use Rattle.fvn_combine_complete.specs.Obeying.{GoWith}
+use Rattle.fvn_combine_bounds.specs.CombineChoicesTables.{HasSums}
+use Rattle.fvn_combine_bounds.specs.CombineCompleteObeying.{GoWith}
 use Rattle.fvn_combine_inferring.specs.Sorted.{GoWithSorts}
 use Rattle.fvn_combine_inferring.specs.Rows.{summands, times, many}
 use Rattle.fvn_combine_inferring.specs.inner.Bounds.{IsHeadedApart, HaveTwoHeads}

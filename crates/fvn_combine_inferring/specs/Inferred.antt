@@ -10,7 +10,7 @@ use Rattle.fvn_flat.specs.Partitions.{HasNoIdentity}
 use Rattle.fvn_combine_nodes.specs.Table.{NodeTable}
 use Rattle.fvn_combine_nodes.specs.States.{IsOpen, class_of}
 use Rattle.fvn_combine_nodes.specs.declared.state.State.{State}
-use Rattle.fvn_combine_complete.specs.Obeying.{IsSumOf}
+use Rattle.fvn_combine_bounds.specs.CombineCompleteObeying.{IsSumOf}
 use Rattle.fvn_combine_inferring.specs.Sorted.{GoWithSorts}
 use Rattle.fvn_combine_inferring.specs.declared.inferring.Inferred.{Inferred}
 use Rattle.fvn_combine_inferring.specs.declared.inferring.Inferred.TheVariants.{Nothing, Impossible, Together, Question}

@@ -9,7 +9,7 @@ use Rattle.fvn_forms.specs.Canon.{parts}
 use Rattle.fvn_combine_nodes.specs.Table.{NodeTable}
 use Rattle.fvn_combine_nodes.specs.States.{class_of}
 use Rattle.fvn_combine_nodes.specs.declared.state.State.{State}
-use Rattle.fvn_combine_complete.specs.Obeying.{GoWith}
+use Rattle.fvn_combine_bounds.specs.CombineCompleteObeying.{GoWith}
 use Rattle.fvn_combine_bounds.specs.Narrow.{IsNarrow, IsNeverIdentity}
 
 module _ (d : Declarations) (t : NodeTable) (s : State) where

@@ -1,6 +1,6 @@
 //! Bags: each single summand of one side is among those of the other one.
 ghost use Rattle.std.specs.Prelude.{◌<◌, length, All};
-ghost use Rattle.fvn_combine_choices.specs.Tables.{HasSums};
+ghost use Rattle.fvn_combine_bounds.specs.CombineChoicesTables.{HasSums};
 ghost use Rattle.fvn_combine_nodes.specs.States.{IsClosed};
 ghost use Rattle.fvn_combine_inferring.specs.Inferred.{TellHeads, IsInferred};
 ghost use Rattle.fvn_combine_inferring.specs.inner.Sizes.{AreInside};

@@ -1,7 +1,7 @@
 //! How many summands the value of a class has at least, and at most.
 ghost use Rattle.std.specs.Prelude.{◌≡◌, ℕ, ◌<◌, ◌≤◌, true, false, length, slice_index_or, sum_by, All, IsTrue};
 ghost use Rattle.fvn_forms.specs.Flat.{FlatTerm};
-ghost use Rattle.fvn_combine_choices.specs.Tables.{HasSums};
+ghost use Rattle.fvn_combine_bounds.specs.CombineChoicesTables.{HasSums};
 ghost use Rattle.fvn_combine_nodes.specs.States.{IsClosed, IsNaming, class_of, is_apart};
 ghost use Rattle.fvn_combine_inferring.specs.Inferred.{TellHeads};
 ghost use Rattle.fvn_combine_inferring.specs.Rows.{many, HasSummand, HasFewSummands, IsSummand};

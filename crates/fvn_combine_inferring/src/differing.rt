@@ -1,6 +1,6 @@
 //! Classes whose values differ for sure.
 ghost use Rattle.std.specs.Prelude.{◌<◌, length, All, IsTrue, MatchOption};
-ghost use Rattle.fvn_combine_choices.specs.Tables.{HasSums};
+ghost use Rattle.fvn_combine_bounds.specs.CombineChoicesTables.{HasSums};
 ghost use Rattle.fvn_combine_nodes.specs.States.{IsClosed};
 ghost use Rattle.fvn_combine_inferring.specs.Inferred.{TellHeads, HaveTwoValues};
 ghost use Rattle.fvn_combine_inferring.specs.inner.Bounds.{HaveTwoHeads, IsItOr};

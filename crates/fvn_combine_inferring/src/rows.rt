@@ -1,6 +1,6 @@
 //! Reduced rows.
 ghost use Rattle.std.specs.Prelude.{◌≡◌, ◌<◌, ◌∷◌, [], length, All, IfOk, IfSome};
-ghost use Rattle.fvn_combine_choices.specs.Tables.{HasSums};
+ghost use Rattle.fvn_combine_bounds.specs.CombineChoicesTables.{HasSums};
 ghost use Rattle.fvn_combine_nodes.specs.States.{IsClosed};
 ghost use Rattle.fvn_combine_inferring.specs.Rows.{AreSides};
 ghost use Rattle.fvn_combine_inferring.specs.inner.Splits.{IsAddition, AreWithin, IsSum, IsReduced};

@@ -1,6 +1,6 @@
 //! What a reduced row says of its classes.
 ghost use Rattle.std.specs.Prelude.{◌≡◌, ◌↔◌, ◌<◌, [], length, All, IfSome, IsTrue};
-ghost use Rattle.fvn_combine_choices.specs.Tables.{HasSums};
+ghost use Rattle.fvn_combine_bounds.specs.CombineChoicesTables.{HasSums};
 ghost use Rattle.fvn_combine_nodes.specs.States.{IsClosed};
 ghost use Rattle.fvn_combine_inferring.specs.Inferred.{TellHeads, IsInferred};
 ghost use Rattle.fvn_combine_inferring.specs.Rows.{AreSides};

@@ -2,7 +2,7 @@
 ghost use Rattle.std.specs.Prelude.{◌≡◌, ◌⊎◌, ◌<◌, ◌||◌, ℕ, length, slice_index_or, slice_set, IfOk, OnOk, IsTrue};
 ghost use Rattle.fvn_terms.specs.Signature.{axioms};
 ghost use Rattle.fvn_terms.specs.Equality.{IsAssociative};
-ghost use Rattle.fvn_combine_choices.specs.Tables.{HasSums};
+ghost use Rattle.fvn_combine_bounds.specs.CombineChoicesTables.{HasSums};
 ghost use Rattle.fvn_combine_leaves.specs.Readings.{IsReading};
 ghost use Rattle.fvn_combine_nodes.specs.States.{IsClosed, class_of};
 ghost use Rattle.fvn_combine_inferring.specs.Inferred.{TellHeads};

@@ -2,7 +2,7 @@
 ghost use Rattle.std.specs.Prelude.{◌≡◌, ◌<◌, length, IsTrue};
 ghost use Rattle.fvn_terms.specs.Signature.{axioms};
 ghost use Rattle.fvn_terms.specs.Equality.{IsAssociative};
-ghost use Rattle.fvn_combine_choices.specs.Tables.{HasSums};
+ghost use Rattle.fvn_combine_bounds.specs.CombineChoicesTables.{HasSums};
 ghost use Rattle.fvn_combine_nodes.specs.States.{IsClosed};
 ghost use Rattle.fvn_combine_inferring.specs.Inferred.{TellHeads, HaveTwoValues};
 ghost use Rattle.fvn_combine_inferring.specs.Rows.{HasSummand};

@@ -8,11 +8,11 @@ use Rattle.std.proofs.lemmas.Option.{slice_get_within, slice_get-get_or, get_or_
 use Rattle.fvn_base.proofs.Membership.{contains_map, map_contains}
 use Rattle.fvn_terms.specs.declared.plain.OpId.{OpId}
 use Rattle.fvn_terms.specs.declared.declarations.Declarations.{Declarations}
-use Rattle.fvn_combine_nodes.specs.Table.{NodeTable, IsWellMade}
-use Rattle.fvn_combine_nodes.specs.States.{IsClosed, class_of}
-use Rattle.fvn_combine_nodes.specs.declared.state.State.{State}
-use Rattle.fvn_combine_nodes.proofs.Admitting.{named_within}
-use Rattle.fvn_combine_nodes.proofs.Lists.{all_from}
+use Rattle.fvn_combine_systems.specs.CombineNodesTable.{NodeTable, IsWellMade}
+use Rattle.fvn_combine_systems.specs.CombineNodesStates.{IsClosed, class_of}
+use Rattle.fvn_combine_systems.specs.CombineNodesDeclared.state.State.{State}
+use Rattle.fvn_combine_systems.proofs.CombineNodesAdmitting.{named_within}
+use Rattle.fvn_combine_systems.proofs.CombineNodesLists.{all_from}
 use Rattle.fvn_combine_systems.specs.NodeSystems.{IsNodeColumn}
 use Rattle.fvn_combine_systems.proofs.Members.{column_of_node}
 use Rattle.fvn_combine_leaves.specs.Leaves.{IsSumOperator, IsSolid, Uses, IsShared}

@@ -6,12 +6,12 @@ use Rattle.fvn_terms.specs.Signature.{axioms}
 use Rattle.fvn_terms.specs.Equality.{IsAssociative}
 use Rattle.fvn_lindio.specs.declared.system.System.{System}
 use Rattle.fvn_lindio.specs.Systems.{IsMinimal, rows_of}
-use Rattle.fvn_flat.specs.Partitions.{HasNoIdentity}
-use Rattle.fvn_flat.specs.SolvedLists.{component}
-use Rattle.fvn_combine_nodes.specs.Table.{NodeTable, IsOver}
-use Rattle.fvn_combine_nodes.specs.Classes.{IsNodePartition}
-use Rattle.fvn_combine_nodes.specs.States.{IsClosed, IsOpen, class_of}
-use Rattle.fvn_combine_nodes.specs.declared.state.State.{State}
+use Rattle.fvn_combine_systems.specs.FlatPartitions.{HasNoIdentity}
+use Rattle.fvn_combine_systems.specs.FlatSolvedLists.{component}
+use Rattle.fvn_combine_systems.specs.CombineNodesTable.{NodeTable, IsOver}
+use Rattle.fvn_combine_systems.specs.CombineNodesClasses.{IsNodePartition}
+use Rattle.fvn_combine_systems.specs.CombineNodesStates.{IsClosed, IsOpen, class_of}
+use Rattle.fvn_combine_systems.specs.CombineNodesDeclared.state.State.{State}
 use Rattle.fvn_combine_systems.specs.NodeSystems.{addends, sums, coefficient, IsNodeColumn, IsNodeSystem}
 
 module _ (d : Declarations) (t : NodeTable) where

@@ -3,7 +3,7 @@ use Rattle.std.specs.Prelude.{◌≡◌, ◌≢◌, ◌↔◌, ℕ, ◌<◌, tru
 use Rattle.fvn_terms.specs.declared.plain.OpId.{OpId}
 use Rattle.fvn_terms.specs.declared.declarations.Declarations.{Declarations}
 use Rattle.fvn_lindio.specs.Systems.{IsSystem}
-use Rattle.fvn_combine_nodes.specs.Table.{NodeTable}
+use Rattle.fvn_combine_systems.specs.CombineNodesTable.{NodeTable}
 use Rattle.fvn_combine_systems.specs.NodeSystems.{IsNodeSystem}
 use Rattle.fvn_combine_leaves.specs.Leaves.{IsSumOperator, IsSolid, Uses}
 use Rattle.fvn_combine_leaves.specs.declared.reading.Sums.{Sums}

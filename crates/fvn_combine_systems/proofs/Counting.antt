@@ -19,7 +19,7 @@ use Rattle.fvn_forms.proofs.Sums.{sum_parts, sum_same_counts}
 use Rattle.fvn_forms.proofs.Build.{build_sum, count_parts_build}
 use Rattle.fvn_lindio.specs.declared.system.System.{System}
 use Rattle.fvn_lindio.specs.Systems.{IsZeroAt, IsUnused, Solves, rows_of}
-use Rattle.fvn_flat.specs.SolvedLists.{component}
+use Rattle.fvn_combine_nodes.specs.FlatSolvedLists.{component}
 use Rattle.fvn_combine_nodes.specs.Table.{NodeTable, IsOver}
 use Rattle.fvn_combine_nodes.proofs.Lists.{all_from}
 use Rattle.fvn_combine_systems.specs.NodeSystems.{addends, sums, coefficient, row_at, IsIdentityClass, IsNodeColumn, IsNodeSystem}

@@ -6,3 +6,6 @@ mod Counting
 mod OfProblems
 mod Sizes
 mod Substituted
+-- Passed on from below, so that crates above need not stand on more than they must.
+pub use Rattle.fvn_combine_nodes.proofs.Admitting as CombineNodesAdmitting
+pub use Rattle.fvn_combine_nodes.proofs.Lists as CombineNodesLists

@@ -17,9 +17,9 @@ use Rattle.fvn_forms.specs.InOrder.{one_if}
 use Rattle.fvn_forms.proofs.Sums.{same_op_is, same_op_itself}
 use Rattle.fvn_terms.proofs.AxiomWords.{identity_is}
 use Rattle.fvn_lindio.specs.declared.system.System.{System}
-use Rattle.fvn_flat.specs.Problems.{subterms, subterms_among, subterms_of, once}
-use Rattle.fvn_flat.specs.Partitions.{Heads}
-use Rattle.fvn_flat.specs.SumSystems.{is_headed_by, classes_of, coefficient as coefficient_of, row_of, IsClassOfIdentity, IsColumn, IsSumSystem}
+use Rattle.fvn_combine_nodes.specs.FlatProblems.{subterms, subterms_among, subterms_of, once}
+use Rattle.fvn_combine_nodes.specs.FlatPartitions.{Heads}
+use Rattle.fvn_combine_nodes.specs.FlatSumSystems.{is_headed_by, classes_of, coefficient as coefficient_of, row_of, IsClassOfIdentity, IsColumn, IsSumSystem}
 use Rattle.fvn_combine_nodes.specs.Table.{NodeTable, IsWellMade, IsTableOf, IsUnitOf, IsOver, term_at}
 use Rattle.fvn_combine_nodes.specs.Laws.{class_at}
 use Rattle.fvn_combine_nodes.specs.declared.table.Node.{Node}

@@ -7,8 +7,8 @@ use Rattle.std.proofs.lemmas.List.Sums.{sum_by-cons}
 use Rattle.fvn_terms.specs.declared.declarations.Declarations.{Declarations}
 use Rattle.fvn_terms.specs.Term.{Term, Terms, var, app, none, more, nodes, nodes_all}
 use Rattle.fvn_forms.specs.Flat.{FlatTerm, plain, symbols}
-use Rattle.fvn_flat.specs.Problems.{subterms, subterms_among, subterms_of, same_term, once, plain_pairs}
-use Rattle.fvn_flat.specs.Solving.{FlatPairs, symbols_of_pairs}
+use Rattle.fvn_combine_nodes.specs.FlatProblems.{subterms, subterms_among, subterms_of, same_term, once, plain_pairs}
+use Rattle.fvn_combine_nodes.specs.FlatSolving.{FlatPairs, symbols_of_pairs}
 use Rattle.fvn_combine_nodes.specs.Table.{NodeTable, IsTableOf, term_at}
 
 mutual

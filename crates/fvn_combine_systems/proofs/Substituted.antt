@@ -16,8 +16,8 @@ use Rattle.fvn_forms.specs.Canon.{build, canon}
 use Rattle.fvn_forms.specs.FitsKinds.{FitsKinds}
 use Rattle.fvn_forms.proofs.Eval.{canon_settled, canon_respects}
 use Rattle.fvn_forms.proofs.ToCanon.{b_equal_iff_canon}
-use Rattle.fvn_flat.specs.Problems.{IsProblem}
-use Rattle.fvn_flat.specs.SolvedLists.{IsKindUnifier}
+use Rattle.fvn_combine_nodes.specs.FlatProblems.{IsProblem}
+use Rattle.fvn_combine_nodes.specs.FlatSolvedLists.{IsKindUnifier}
 use Rattle.fvn_combine_nodes.specs.Table.{NodeTable, term_at, IsWellMade, IsTableOf}
 use Rattle.fvn_combine_nodes.specs.States.{Admits, IsNaming, class_of}
 use Rattle.fvn_combine_nodes.specs.Unifiers.{value_at, kernel}

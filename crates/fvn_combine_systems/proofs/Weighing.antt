@@ -7,7 +7,7 @@ use Rattle.fvn_base.proofs.Membership.{contains_cases, contains_later, contains_
 use Rattle.fvn_base.proofs.Pigeonhole.{AllPairs-tail, AllPairs-first}
 use Rattle.fvn_forms.specs.InOrder.{one_if}
 use Rattle.fvn_lindio.specs.Systems.{above, below, up, down, IsZeroAt}
-use Rattle.fvn_flat.specs.SolvedLists.{component}
+use Rattle.fvn_combine_nodes.specs.FlatSolvedLists.{component}
 
 -- a difference is above zero or below by what its parts differ
 pub balance : (m n : ℕ) → above (pos m -ℤ pos n) + n ≡ below (pos m -ℤ pos n) + m

@@ -11,10 +11,10 @@ use Rattle.fvn_forms.specs.FitsKinds.{FitsKinds}
 use Rattle.fvn_forms.specs.Settled.{Settled}
 use Rattle.fvn_lindio.specs.declared.system.System.{System}
 use Rattle.fvn_lindio.specs.Systems.{Solves, rows_of}
-use Rattle.fvn_flat.specs.Problems.{IsProblem, plain_pairs}
-use Rattle.fvn_flat.specs.Solving.{FlatPairs, symbols_of_pairs}
-use Rattle.fvn_flat.specs.SumSystems.{IsSumSystem}
-use Rattle.fvn_flat.specs.SolvedLists.{IsKindUnifier}
+use Rattle.fvn_combine_nodes.specs.FlatProblems.{IsProblem, plain_pairs}
+use Rattle.fvn_combine_nodes.specs.FlatSolving.{FlatPairs, symbols_of_pairs}
+use Rattle.fvn_combine_nodes.specs.FlatSumSystems.{IsSumSystem}
+use Rattle.fvn_combine_nodes.specs.FlatSolvedLists.{IsKindUnifier}
 use Rattle.fvn_combine_nodes.specs.Table.{NodeTable, IsWellMade, IsTableOf}
 use Rattle.fvn_combine_nodes.specs.States.{Admits, IsNaming, class_of}
 use Rattle.fvn_combine_nodes.specs.Unifiers.{value_at, kernel}

@@ -9,4 +9,6 @@ mod shares;
 mod terms;
 
 pub use choice::bindings;
+pub use fvn_combine_admissible::copied_system;
+pub use fvn_combine_unfolding::{is_too_large, unfold};
 pub use names::{node_kind, variables};

@@ -9,8 +9,8 @@ use Rattle.fvn_cmd.specs.declared.status.Status.{Status}
 use Rattle.fvn_cmd.specs.declared.status.Status.TheVariants.{Usage, ReadFault, WriteFault}
 use Rattle.fvn_cmd.specs.Statuses.{IsSilent, IsSpoken, IsAnswering, IsRefusing}
 use Rattle.fvn_cmd.specs.Texts.{Is}
-use Rattle.fvn_cmd_variants.specs.Solutions as of_terms
-use Rattle.fvn_cmd_vunify.specs.Solutions as modulo
+use Rattle.fvn_cmd_laws.specs.CmdVariantsSolutions as of_terms
+use Rattle.fvn_cmd_laws.specs.CmdVunifySolutions as modulo
 use Rattle.fvn_cmd_laws.proofs.Verified.{verdict_answering}
 use Rattle.fvn_cmd_laws.proofs.Unified.{end_answering}
 use Rattle.fvn_cmd_laws.proofs.Weighed.{weighing_answering}

@@ -6,17 +6,17 @@ use Rattle.fvn_problems.specs.declared.bindings.Bindings.{Bindings}
 use Rattle.fvn_weights.specs.declared.weights.Weights.{Weights}
 use Rattle.fvn_cmd.specs.declared.status.Status.{Status}
 use Rattle.fvn_cmd.specs.Texts.{Is}
-use Rattle.fvn_cmd_check.specs.Checks.{TellsSorts}
+use Rattle.fvn_cmd_laws.specs.CmdCheckChecks.{TellsSorts}
 use Rattle.fvn_cmd_terminates.specs.Weighings.{TellsWeighing}
-use Rattle.fvn_cmd_verify.specs.Verdicts.{TellsVerdict}
-use Rattle.fvn_cmd_unify.specs.Replies.{IsAnswer}
+use Rattle.fvn_cmd_laws.specs.CmdVerifyVerdicts.{TellsVerdict}
+use Rattle.fvn_cmd_laws.specs.CmdUnifyReplies.{IsAnswer}
 use Rattle.fvn_cmd_work.specs.Replies.{IsCount}
 use Rattle.fvn_cmd_work.proofs.Agreeing.{counts_agree}
 use Rattle.fvn_cmd_laws.specs.Laws.{SortsAreToldOnce, VerdictsAreExact, WeighingsAreExact, AnswersAreExact, ExploredAnswersAreExact}
 use Rattle.fvn_problems.specs.declared.query.Query.{Query}
 use Rattle.fvn_cmd_words.specs.declared.reach.Reach.{Reach}
-use Rattle.fvn_cmd_variants.specs.Replies as of_terms
-use Rattle.fvn_cmd_vunify.specs.Replies as modulo
+use Rattle.fvn_cmd_laws.specs.CmdVariantsReplies as of_terms
+use Rattle.fvn_cmd_laws.specs.CmdVunifyReplies as modulo
 use Rattle.fvn_tool.specs.Words.{Command, IsCommand, text_for}
 use Rattle.fvn_tool.specs.Asked.{Question, summary, unifiers, verdict, termination, term_variants, theory_unifiers, count, Asked}
 use Rattle.fvn_tool.specs.Answered.{Answers, IsReply}

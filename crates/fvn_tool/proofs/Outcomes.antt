@@ -8,8 +8,8 @@ use Rattle.fvn_cmd.specs.declared.status.Status.TheVariants.{Solved, Nothing, Us
 use Rattle.fvn_cmd.specs.Statuses.{IsSilent, IsSpoken, IsAnswering, IsRefusing}
 use Rattle.fvn_cmd.specs.Asking.{Word}
 use Rattle.fvn_cmd.specs.Refusing.{IsRefusal}
-use Rattle.fvn_cmd_variants.specs.Solutions as of_terms
-use Rattle.fvn_cmd_vunify.specs.Solutions as modulo
+use Rattle.fvn_cmd_laws.specs.CmdVariantsSolutions as of_terms
+use Rattle.fvn_cmd_laws.specs.CmdVunifySolutions as modulo
 use Rattle.fvn_cmd_laws.proofs.Verified.{verdict_answering}
 use Rattle.fvn_cmd_laws.proofs.Unified.{end_answering}
 use Rattle.fvn_cmd_laws.proofs.Weighed.{weighing_answering}

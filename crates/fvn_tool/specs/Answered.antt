@@ -6,14 +6,14 @@ use Rattle.fvn_module.specs.Contents.{Contents}
 use Rattle.fvn_module_loading.specs.Losses.{IsLossOf}
 use Rattle.fvn_cmd.specs.declared.status.Status.{Status}
 use Rattle.fvn_cmd.specs.declared.status.Status.TheVariants.{Solved}
-use Rattle.fvn_cmd_check.specs.Checks.{told_lines}
+use Rattle.fvn_cmd_laws.specs.CmdCheckChecks.{told_lines}
 use Rattle.fvn_cmd_terminates.specs.Weighings.{status_of_weighing, IsWeighed, IsWeighingLine}
-use Rattle.fvn_cmd_verify.specs.Verdicts.{status_of_verdict, IsVerdictText, IsVerdictOn}
+use Rattle.fvn_cmd_laws.specs.CmdVerifyVerdicts.{status_of_verdict, IsVerdictText, IsVerdictOn}
 use Rattle.fvn_cmd.specs.Ends.{status_of_end}
-use Rattle.fvn_cmd_unify.specs.Ends.{StaysWithinBounds}
-use Rattle.fvn_cmd_unify.specs.Solutions.{Found, IsWhole, IsSolution, Shows}
-use Rattle.fvn_cmd_variants.specs.Solutions as of_terms
-use Rattle.fvn_cmd_vunify.specs.Solutions as modulo
+use Rattle.fvn_cmd_laws.specs.CmdUnifyEnds.{StaysWithinBounds}
+use Rattle.fvn_cmd_laws.specs.CmdUnifySolutions.{Found, IsWhole, IsSolution, Shows}
+use Rattle.fvn_cmd_laws.specs.CmdVariantsSolutions as of_terms
+use Rattle.fvn_cmd_laws.specs.CmdVunifySolutions as modulo
 use Rattle.fvn_cmd_work.specs.Replies.{ShowsEnd}
 use Rattle.fvn_cmd_laws.specs.Verified.{IsDecided, AllStayWithin}
 use Rattle.fvn_tool.specs.Words.{Command}

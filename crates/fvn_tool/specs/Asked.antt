@@ -17,10 +17,10 @@ use Rattle.fvn_cmd.specs.Texts.{line, Is}
 use Rattle.fvn_cmd.specs.Asking.{Word}
 use Rattle.fvn_cmd.specs.Refusing.{IsRefusal}
 use Rattle.fvn_cmd_terminates.specs.Replies.{terminates_words}
-use Rattle.fvn_cmd_verify.specs.Replies.{verify_words}
-use Rattle.fvn_cmd_unify.specs.Replies.{unify_words}
+use Rattle.fvn_cmd_laws.specs.CmdVerifyReplies.{verify_words}
+use Rattle.fvn_cmd_laws.specs.CmdUnifyReplies.{unify_words}
 use Rattle.fvn_cmd_words.specs.declared.reach.Reach.{Reach}
-use Rattle.fvn_cmd_variants.specs.Replies.{variants_words}
+use Rattle.fvn_cmd_laws.specs.CmdVariantsReplies.{variants_words}
 use Rattle.fvn_cmd_work.specs.Made.{work_problem}
 use Rattle.fvn_cmd_work.specs.Replies.{work_words}
 use Rattle.fvn_tool.specs.Words.{Command, check, unify, verify, terminates, variants, vunify, work}

@@ -8,17 +8,17 @@ use Rattle.fvn_cmd.specs.declared.status.Status.TheVariants.{Solved, ModuleRefus
 use Rattle.fvn_cmd.specs.Texts.{Is}
 use Rattle.fvn_cmd.specs.Asking.{AllStand}
 use Rattle.fvn_cmd.specs.Refusing.{IsFirstRefusal, IsFirstWordRefusal}
-use Rattle.fvn_cmd_check.specs.Checks.{told_lines}
-use Rattle.fvn_cmd_unify.specs.Replies.{IsAnswer}
+use Rattle.fvn_cmd_laws.specs.CmdCheckChecks.{told_lines}
+use Rattle.fvn_cmd_laws.specs.CmdUnifyReplies.{IsAnswer}
 use Rattle.fvn_answer.specs.declared.end.End.TheVariants.{Complete}
 use Rattle.fvn_cmd_work.specs.Replies.{IsCount}
 use Rattle.fvn_cmd_laws.specs.Unified.{IsNothingExact, HasFewUnifiers, IsCountOfUnifiers}
-use Rattle.fvn_cmd_unify.specs.Solutions.{IsWhole}
+use Rattle.fvn_cmd_laws.specs.CmdUnifySolutions.{IsWhole}
 use Rattle.fvn_cmd_laws.specs.Verified.{AreOneIfConfluent, IsVerdictExact}
 use Rattle.fvn_cmd_laws.specs.Weighed.{IsWeighingExact}
 use Rattle.fvn_cmd_laws.specs.Explored.{IsVariantsExact, IsTheoryExact}
-use Rattle.fvn_cmd_variants.specs.Replies as of_terms
-use Rattle.fvn_cmd_vunify.specs.Replies as modulo
+use Rattle.fvn_cmd_laws.specs.CmdVariantsReplies as of_terms
+use Rattle.fvn_cmd_laws.specs.CmdVunifyReplies as modulo
 use Rattle.fvn_tool.specs.Words.{Command, IsCommand, text_for}
 use Rattle.fvn_tool.specs.Asked.{Question, summary, unifiers, verdict, termination, term_variants, theory_unifiers, count, Asked, words_of, IsShort, IsAsked, IsRefused}
 use Rattle.fvn_tool.specs.Answered.{Answers}

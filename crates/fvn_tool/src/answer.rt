@@ -8,12 +8,8 @@ ghost use Rattle.fvn_cmd.specs.Texts.{bytes_of};
 
 use crate::words::Command;
 use fvn_cmd::{Answer, Status};
-use fvn_cmd_check::check_reply;
+use fvn_cmd_laws::{check_reply, unify_reply, variants_reply, verify_reply, vunify_reply};
 use fvn_cmd_terminates::terminates_reply;
-use fvn_cmd_unify::unify_reply;
-use fvn_cmd_variants::variants_reply;
-use fvn_cmd_verify::verify_reply;
-use fvn_cmd_vunify::vunify_reply;
 use fvn_cover::Gate;
 use fvn_terms::NoMemory;
 use std::alloc::Global;

@@ -11,7 +11,7 @@ use Rattle.fvn_flat.specs.Problems.{variables_of}
 use Rattle.fvn_flat.specs.Solving.{substitution, problem_of, Binds, IsNumbered}
 use Rattle.fvn_flat.specs.Drawn.{IsDrawn}
 use Rattle.fvn_flat.specs.declared.solver.Pairs.{Pairs}
-use Rattle.fvn_combine_choices.specs.Covering.{CoversOnKinds}
+use Rattle.fvn_combine.specs.CombineChoicesCovering.{CoversOnKinds}
 use Rattle.fvn_cover.specs.Covering.{CoversVariant}
 use Rattle.fvn_cover.specs.declared.variant.Variant.{Variant}
 

@@ -4,8 +4,8 @@ use Rattle.fvn_terms.specs.declared.plain.OpId.{OpId}
 use Rattle.fvn_terms.specs.declared.declarations.Declarations.{Declarations}
 use Rattle.fvn_terms.specs.Signature.{axioms}
 use Rattle.fvn_flat.specs.Partitions.{HasNoIdentity}
-use Rattle.fvn_combine_admissible.specs.Listed.{tag_in}
-use Rattle.fvn_combine_candidates.specs.declared.sharing.SharedClass.{SharedClass}
+use Rattle.fvn_combine_drawing.specs.CombineAdmissibleListed.{tag_in}
+use Rattle.fvn_combine_drawing.specs.CombineCandidatesDeclared.sharing.SharedClass.{SharedClass}
 
 -- an operator with an identity that uses the class is noted as what heads its value, and is not its tag
 pub record IsAgainst (d : Declarations) (heads tags : List (Option OpId)) (c : SharedClass) : Type 0 where

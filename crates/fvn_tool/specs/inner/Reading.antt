@@ -1,7 +1,7 @@
 -- What was heard of the words of the command line.
 use Rattle.std.specs.Prelude.{◌≤◌, ℕ, List}
 use Rattle.fvn_cmd_words.specs.declared.reach.Reach.{Reach}
-use Rattle.fvn_cmd_exploring.specs.Searches.{KeepsSome, AreSomeWorkers}
+use Rattle.fvn_cmd_laws.specs.CmdExploringSearches.{KeepsSome, AreSomeWorkers}
 use Rattle.fvn_cmd_words.specs.declared.limits.TheConstants.{LEAST_WORK, MOST_WORK}
 use Rattle.fvn_tool.specs.declared.words.Heard.{Heard}
 use Rattle.fvn_tool.specs.declared.words.Heard.TheVariants.{NoCommand, Work, OverModule}

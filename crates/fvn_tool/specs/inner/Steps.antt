@@ -4,12 +4,12 @@ use Rattle.fvn_base.specs.declared.limits.TheConstants.{MODULE_BYTES}
 use Rattle.fvn_outside.specs.Source.{TakesCount}
 use Rattle.fvn_cmd.specs.declared.status.Status.{Status}
 use Rattle.fvn_cmd.specs.declared.status.Status.TheVariants.{Usage, ModuleRefused}
-use Rattle.fvn_cmd_check.specs.Checks.{IsCheckReply}
+use Rattle.fvn_cmd_laws.specs.CmdCheckChecks.{IsCheckReply}
 use Rattle.fvn_cmd_terminates.specs.Replies.{IsTerminatesReply}
-use Rattle.fvn_cmd_verify.specs.Replies.{IsVerifyReply}
-use Rattle.fvn_cmd_unify.specs.Replies.{IsUnifyReply}
-use Rattle.fvn_cmd_variants.specs.Replies.{IsVariantsReply}
-use Rattle.fvn_cmd_vunify.specs.Replies.{IsVunifyReply}
+use Rattle.fvn_cmd_laws.specs.CmdVerifyReplies.{IsVerifyReply}
+use Rattle.fvn_cmd_laws.specs.CmdUnifyReplies.{IsUnifyReply}
+use Rattle.fvn_cmd_laws.specs.CmdVariantsReplies.{IsVariantsReply}
+use Rattle.fvn_cmd_laws.specs.CmdVunifyReplies.{IsVunifyReply}
 use Rattle.fvn_cmd_work.specs.Replies.{IsWorkAnswer}
 use Rattle.fvn_tool.specs.Words.{Command, check, unify, verify, terminates, variants, vunify, work, IsCommand, AreNoCommand, ReadsModule, text_for}
 use Rattle.fvn_tool.specs.Asked.{too_long_line, IsShort}

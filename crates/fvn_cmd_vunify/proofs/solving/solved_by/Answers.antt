@@ -6,7 +6,7 @@ use Rattle.fvn_base.specs.declared.limits.TheConstants.{UNIFIERS}
 use Rattle.fvn_terms.specs.declared.declarations.Declarations.{Declarations}
 use Rattle.fvn_flat.specs.Fits.{Fits, AllFit}
 use Rattle.fvn_cover.specs.declared.marking.TheConstants.{WORKERS}
-use Rattle.fvn_rewrite.specs.Usable.{Rewriting}
+use Rattle.fvn_cmd_exploring.specs.RewriteUsable.{Rewriting}
 use Rattle.fvn_cmd_exploring.proofs.Settings.{setting_is, limits_are}
 use Rattle.fvn_cmd_vunify.proofs.Explored.{of_pairs, solved_in, solved_along}
 use Rattle.fvn_cmd_vunify.proofs.solving.solved_by.Goals as goal

@@ -1,7 +1,7 @@
 -- The class at this place.
 use Rattle.std.proofs.Common.{◌<◌, length, sym, subst, Contains}
 use Rattle.std.proofs.lemmas.List.Elements.{Contains-get_or}
-use Rattle.fvn_combine_candidates.specs.declared.sharing.SharedClass.{SharedClass}
+use Rattle.fvn_combine_drawing.specs.CombineCandidatesDeclared.sharing.SharedClass.{SharedClass}
 use Rattle.fvn_combine.proofs.against.go_against.Goals as goal
 
 pub is_against-requires : goal.is_against-requires

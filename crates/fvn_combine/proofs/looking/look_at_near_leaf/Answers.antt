@@ -2,7 +2,7 @@
 use Rattle.std.proofs.Common.{sym, ◌∙◌, subst}
 use Rattle.std.proofs.lemmas.Bool.{false≢true}
 use Rattle.fvn_flat.specs.Solving.{problem_of}
-use Rattle.fvn_combine_candidates.specs.Refusals.{IsOpenFault}
+use Rattle.fvn_combine_drawing.specs.CombineCandidatesRefusals.{IsOpenFault}
 use Rattle.fvn_combine.proofs.looking.look_at_near_leaf.Goals as goal
 
 pub returns-then-not-are_of_one_kind : goal.returns-then-not-are_of_one_kind

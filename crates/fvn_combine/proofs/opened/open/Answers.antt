@@ -4,9 +4,9 @@ use Rattle.std.proofs.Math.Nat.{le_trans, mul-le-mul_right}
 use Rattle.fvn_combine_nodes.specs.States.{class_of}
 use Rattle.fvn_acunify_product.specs.Weight.{product}
 use Rattle.fvn_acunify_product.specs.Tags.{tags_left}
-use Rattle.fvn_combine_candidates.specs.Sharing.{AreSharedClasses}
-use Rattle.fvn_combine_candidates.specs.Tags.{tag_counts}
-use Rattle.fvn_combine_candidates.specs.declared.sharing.SharedClass.{SharedClass}
+use Rattle.fvn_combine_drawing.specs.CombineCandidatesSharing.{AreSharedClasses}
+use Rattle.fvn_combine_drawing.specs.CombineCandidatesTags.{tag_counts}
+use Rattle.fvn_combine_drawing.specs.CombineCandidatesDeclared.sharing.SharedClass.{SharedClass}
 use Rattle.fvn_combine.specs.Tasks.{Combining}
 use Rattle.fvn_combine.specs.Work.{most_tags, most_numbers}
 use Rattle.fvn_combine.proofs.Less.{few_tags, alone-le}

@@ -1,10 +1,10 @@
 -- The numbers that are passed cover nothing, or only what is given.
 use Rattle.std.proofs.Common.{refl, sym, subst, inl, inr, arith}
 use Rattle.fvn_combine_nodes.specs.States.{class_of}
-use Rattle.fvn_combine_triangular.specs.Ready.{AreListed}
+use Rattle.fvn_combine_drawing.specs.CombineTriangularReady.{AreListed}
 use Rattle.fvn_combine_drawing.specs.Choices.{IsListedChoice}
 use Rattle.fvn_combine_drawing.specs.Drawn.{IsDrawnBy}
-use Rattle.fvn_combine_admissible.specs.Listed.{tag_in, systems_of, choice_of}
+use Rattle.fvn_combine_drawing.specs.CombineAdmissibleListed.{tag_in, systems_of, choice_of}
 use Rattle.fvn_combine.specs.Tasks.{Combining}
 use Rattle.fvn_combine.proofs.Current.{listed, fewer_under, passed_or_to_come, still_turning}
 use Rattle.fvn_combine.proofs.walking.next_of_turning.Goals as goal

@@ -3,10 +3,10 @@ use Rattle.std.proofs.Common.{◌≡◌, ◌<◌, List, length, sym, ap, ◌∙�
 use Rattle.std.proofs.Math.Nat.{le_trans}
 use Rattle.fvn_terms.specs.declared.plain.OpId.{OpId}
 use Rattle.fvn_combine_nodes.specs.States.{class_of}
-use Rattle.fvn_combine_admissible.specs.Listed.{tag_in}
-use Rattle.fvn_combine_candidates.specs.Tags.{AreTags}
-use Rattle.fvn_combine_candidates.specs.declared.sharing.SharedClass.{SharedClass}
-use Rattle.fvn_combine_candidates.specs.Turning.{AreWheels, HaveBounds}
+use Rattle.fvn_combine_drawing.specs.CombineAdmissibleListed.{tag_in}
+use Rattle.fvn_combine_drawing.specs.CombineCandidatesTags.{AreTags}
+use Rattle.fvn_combine_drawing.specs.CombineCandidatesDeclared.sharing.SharedClass.{SharedClass}
+use Rattle.fvn_combine_drawing.specs.CombineCandidatesTurning.{AreWheels, HaveBounds}
 use Rattle.fvn_combine.specs.Tasks.{Combining}
 use Rattle.fvn_combine.specs.inner.Against.{IsAgainst}
 use Rattle.fvn_combine.proofs.Less.{few_numbers}

@@ -5,7 +5,7 @@ use Rattle.std.proofs.lemmas.Bool.{false≢true}
 use Rattle.fvn_flat.specs.declared.solver.SolvedList.{SolvedList}
 use Rattle.fvn_combine_nodes.specs.States.{class_of}
 use Rattle.fvn_combine_choices.specs.Choosing.{Falls}
-use Rattle.fvn_combine_admissible.specs.Listed.{systems_of, choice_of}
+use Rattle.fvn_combine_triangular.specs.CombineAdmissibleListed.{systems_of, choice_of}
 use Rattle.fvn_combine_triangular.specs.Ready.{ArePlanned}
 use Rattle.fvn_combine_triangular.proofs.Planned.{planned, variables_sorted}
 use Rattle.fvn_combine_drawing.proofs.Possible.{possible_iff}

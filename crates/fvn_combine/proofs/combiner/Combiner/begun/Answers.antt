@@ -8,7 +8,7 @@ use Rattle.fvn_flat.specs.declared.solver.Pairs.{Pairs}
 use Rattle.fvn_combine_nodes.specs.Classes.{IsNodePartition}
 use Rattle.fvn_combine_tree.specs.Trees.{IsToCome}
 use Rattle.fvn_combine_nodes.specs.Unifiers.{kernel}
-use Rattle.fvn_combine_bounds.specs.Narrow.{KeepsSorts}
+use Rattle.fvn_combine_drawing.specs.CombineBoundsNarrow.{KeepsSorts}
 use Rattle.fvn_combine.specs.Tasks.{Combining, IsWanted}
 use Rattle.fvn_combine.proofs.combiner.Combiner.begun.Goals as goal
 
