@@ -66,6 +66,28 @@ fn push_missing(
     Ok(())
 }
 
+/// The same of the text of such pairs.
+fn push_known(
+    alloc: Global,
+    sig: &Signature,
+    all: &[Subst],
+    known: &str,
+    out: &mut String,
+) -> Result<(), NoMemory>
+    requires { All (BindingsFit sig.now) all.now }
+{
+    if known.is_empty() {
+        return Ok(());
+    }
+    match problem_of(alloc, sig, known)? {
+        Some(pairs) => push_missing(alloc, sig, all, &pairs, out),
+        None => {
+            out.push_str(" not read")?;
+            Ok(())
+        }
+    }
+}
+
 /// How a solver with these limits ends with a problem that may be given, how many unifiers it gives, and which of those
 /// that are known are missing.
 fn found_of(
@@ -82,16 +104,10 @@ fn found_of(
     if !is_problem(alloc, sig, problem)? {
         return Ok(String::from_str(alloc, "not given")?);
     }
-    let found = AxiomUnify::new(sig, limits).unify(alloc, problem, 0)?;
+    let solver = AxiomUnify::new(sig, limits);
+    let found = solver.unify(alloc, problem, 0)?;
     let mut out = format!(in alloc; "{} {}", word_of(&found.end), found.unifiers.len())?;
-    if !known.is_empty() {
-        match problem_of(alloc, sig, known)? {
-            Some(pairs) => {
-                push_missing(alloc, sig, found.unifiers.as_slice(), &pairs, &mut out)?;
-            }
-            None => out.push_str(" not read")?,
-        }
-    }
+    push_known(alloc, sig, found.unifiers.as_slice(), known, &mut out)?;
     Ok(out)
 }
 

@@ -1,14 +1,16 @@
 //! Parts of problems, and all their splits.
 ghost use Rattle.fvn_terms.specs.Unifiers.{Problem};
 ghost use Rattle.fvn_flat.specs.Problems.{IsProblem};
+ghost use Rattle.fvn_flat.specs.Solving.{problem_of};
 ghost use Rattle.fvn_purify.specs.Parts.{AreClassesOf};
 
 use super::parts::{push_classes, text_of};
 use super::unifiers::OPERATORS;
+use fvn_flat::Pairs;
 use fvn_purify::{Classes, purify, splits};
 use fvn_signature::Signature;
 use fvn_terms::NoMemory;
-use fvn_tests_samples::{are_sides, problem_of, signature_of};
+use fvn_tests_samples::{are_sides, problem_of as read_problem, signature_of};
 use std::alloc::Global;
 use std::process::Abort;
 
@@ -94,20 +96,33 @@ fn push_splits(
     }
 }
 
-/// The parts of the problem, and its splits.
+/// The parts of a problem, and its splits.
+fn push_parts(
+    alloc: Global,
+    sig: &Signature,
+    problem: &Pairs,
+    out: &mut String,
+) -> Result<(), NoMemory>
+    requires kinds { IsProblem sig.now (problem_of problem.now) }
+{
+    let classes = purify(alloc, sig, problem)?;
+    push_classes(out, &classes)?;
+    out.push_str(" =>")?;
+    push_splits(alloc, sig, &classes, out)
+}
+
+/// The same of the pairs that are written, with the operator h 198 times in place of each star.
 fn shown_splits(alloc: Global, sig: &Signature, text: &str) -> Result<String, NoMemory> {
     let mut out = String::new(alloc);
     let often = " h".repeat(alloc, 198)?;
     let whole = text.replace(alloc, "*", often.as_str())?;
-    let Some(problem) = problem_of(alloc, sig, whole.as_str())? else {
+    let Some(problem) = read_problem(alloc, sig, whole.as_str())? else {
         return Ok(out);
     };
-    if are_sides(alloc, sig, &problem)? {
-        let classes = purify(alloc, sig, &problem)?;
-        push_classes(&mut out, &classes)?;
-        out.push_str(" =>")?;
-        push_splits(alloc, sig, &classes, &mut out)?;
+    if !are_sides(alloc, sig, &problem)? {
+        return Ok(out);
     }
+    push_parts(alloc, sig, &problem, &mut out)?;
     Ok(out)
 }
 

@@ -1,6 +1,0 @@
--- The classes are those of the problem.
-use Rattle.fvn_flat.specs.Solving.{problem_of}
-use Rattle.fvn_tests_combine.proofs.tests.splits.shown_splits.Goals as goal
-
-pub push_splits-requires : goal.push_splits-requires
-push_splits-requires c = record { classes = (problem_of c.let-Some.problem, c.in_ok-are_sides.ensures c.if-branch.true, c.in_ok-classes.ensures) }
