@@ -4,7 +4,7 @@ set -e
 here=$(cd "$(dirname "$0")/.." && pwd)
 there=$(mktemp -d)
 trap 'rm -rf "$there"' EXIT
-python3 "$here/bench/crates.py" "$there" fvn_tests_combine
+python3 "$here/bench/crates.py" "$there" 'fvn_tests_combine: fvn_base fvn_combine fvn_combine_nodes fvn_combine_tree fvn_combine_triangular fvn_flat fvn_signature fvn_terms fvn_tests_samples'
 # A term is written with each operator after its arguments: constants f and g, free operators h and i, a commutative
 # operator j, sums k and n, and sums l and m with the identity g.
 cp "${PROBLEMS:-$here/bench/combine-problems.txt}" "$there/problems"
@@ -12,16 +12,29 @@ cd "$there/crates/fvn_tests_combine"
 # The rest of the tests is not needed.
 find src/tests -type f ! -name given.rt -delete
 find proofs/tests -mindepth 1 -maxdepth 1 ! -name given -exec rm -r {} +
-rm proofs/Asking.antt proofs/Givens.antt
-printf -- '-- The lemmas of the crate.\n' > proofs/Lib.antt
+mkdir proofs/tests/is_small
+cat > proofs/tests/is_small/Invariants.antt <<'PROOF'
+-- What is counted and what is left are all symbols.
+use Rattle.std.proofs.Common.{◌≡◌, ◌+◌, ◌≤◌, drop}
+use Rattle.fvn_flat.specs.Solving.{symbols_of_pairs}
+use Rattle.fvn_tests_combine.proofs.tests.is_small.Given as goal
+
+abbrev pub invariant-loop-l : goal.invariant-loop-l
+invariant-loop-l l = (symbols_of_pairs l.problem.pairs ≡ l.total + symbols_of_pairs (drop l.l-index l.l-items)) × (l.total ≤ 900)
+PROOF
 cat > src/tests.rt <<'PROGRAM'
 //! Times of combined unification.
+ghost use Rattle.std.specs.Prelude.{◌≤◌, IsTrue};
+ghost use Rattle.fvn_base.specs.declared.limits.TheConstants.{TERM_SYMBOLS};
+ghost use Rattle.fvn_flat.specs.Solving.{symbols_of_pairs};
+
 mod given;
 
-use self::given::is_given;
+use self::given::is_problem;
 use fvn_combine::{CombineEnd, Combiner};
+use fvn_flat::Pairs;
 use fvn_tests_samples::{problem_of, signature_of};
-use fvn_sorts::Signature;
+use fvn_signature::Signature;
 use fvn_terms::NoMemory;
 use std::process::Abort;
 use std::time::Instant;
@@ -30,6 +43,22 @@ use std::time::Instant;
 const OPERATORS: &str = "A; f : -> A; g : -> A; h : A -> A; i : A A -> A; j : A A -> A [comm]; k : A A -> A [assoc comm]; l : A A -> A [assoc comm id: g]; m : A A -> A [assoc comm id: g]; n : A A -> A [assoc comm]";
 
 const PROBLEMS: &str = "@PROBLEMS@";
+
+/// Whether the sides have few symbols together.
+fn is_small(problem: &Pairs) -> bool
+    ensures { IsTrue result → symbols_of_pairs problem.now.pairs ≤ TERM_SYMBOLS }
+{
+    let mut total: u64 = 0;
+    for (l, r) in problem.pairs.as_slice() {
+        let left = l.size();
+        let right = r.size();
+        if left > 400 || right > 400 || total > 100 {
+            return false;
+        }
+        total = total + left + right;
+    }
+    total <= 900
+}
 
 /// How many unifiers are given, and whether the search ends at a limit.
 fn counted(combiner: &mut Combiner) -> Result<(u64, bool), NoMemory> {
@@ -50,7 +79,8 @@ fn timed(abort: &impl Abort, rt: &HostRuntime, sig: &Signature, text: &str) -> R
     let Some(problem) = problem_of(alloc, sig, text)? else {
         return Err(NoMemory);
     };
-    assert!(abort; is_given(alloc, sig, &problem)?);
+    assert!(abort; is_problem(alloc, sig, &problem)?);
+    assert!(abort; is_small(&problem));
     if let Ok(start) = Instant::now(rt) {
         let mut combiner = Combiner::new(alloc, sig, &problem, 0, 1000)?;
         let (count, ended) = counted(&mut combiner)?;

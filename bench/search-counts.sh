@@ -4,19 +4,17 @@ set -e
 here=$(cd "$(dirname "$0")/.." && pwd)
 there=$(mktemp -d)
 trap 'rm -rf "$there"' EXIT
-python3 "$here/bench/crates.py" "$there" fvn_tests_combine
+python3 "$here/bench/crates.py" "$there" 'fvn_tests_combine: fvn_acunify_product fvn_base fvn_combine_candidates fvn_combine_inferring fvn_combine_leaves fvn_combine_nodes fvn_combine_questions fvn_combine_reading fvn_combine_tree fvn_combine_triangular fvn_flat fvn_lindio fvn_signature fvn_terms fvn_tests_samples'
 cp "${PROBLEMS:-$here/bench/combine-problems.txt}" "$there/problems"
 cd "$there/crates/fvn_tests_combine"
 # The rest of the tests is not needed.
 find src/tests -type f ! -name given.rt -delete
 find proofs/tests -mindepth 1 -maxdepth 1 ! -name given -exec rm -r {} +
-rm proofs/Asking.antt proofs/Givens.antt
-printf -- '-- The lemmas of the crate.\n' > proofs/Lib.antt
 cat > src/tests.rt <<'PROGRAM'
 //! How much the search goes through.
 mod given;
 
-use self::given::is_given;
+use self::given::is_problem;
 use fvn_base::Seq;
 use fvn_flat::Pairs;
 use fvn_combine_inferring::{Inferred, Known, differ, infer, known_of};
@@ -26,9 +24,9 @@ use fvn_combine_reading::read;
 use fvn_lindio::Solution;
 use fvn_combine_nodes::{State, Table};
 use fvn_combine_tree::{Tree, table_of};
-use fvn_combine_candidates::{bases, bases_from_last, option_counts, shared, tags_of, wheels};
+use fvn_combine_candidates::{SolvedSystems, bases, bases_from_last, option_counts, shared, tags_of, wheels};
 use fvn_tests_samples::{problem_of, signature_of};
-use fvn_sorts::Signature;
+use fvn_signature::Signature;
 use fvn_terms::NoMemory;
 use fvn_acunify_product::Tags;
 use std::alloc::Global;
@@ -100,7 +98,8 @@ fn look_further(
     if let Some(pair) = first_question(sig, table, state, reading) {
         return Ok(question(sig, table, state, known, pair));
     }
-    let lists = match bases(alloc, sig, table, state, reading) {
+    let mut solved = SolvedSystems::new(alloc);
+    let lists = match bases(alloc, sig, table, state, reading, &mut solved) {
         Err(_) => bases_from_last(alloc, sig, table, state, reading, true)?,
         Ok(lists) => Some(lists),
     };
@@ -165,7 +164,7 @@ fn all_counted(abort: &impl Abort, rt: &HostRuntime, sig: &Signature) -> Result<
         let Some(problem) = problem_of(alloc, sig, text)? else {
             return Err(NoMemory);
         };
-        assert!(abort; is_given(alloc, sig, &problem)?);
+        assert!(abort; is_problem(alloc, sig, &problem)?);
         let (c, refused) = counted(alloc, sig, &problem)?;
         let end = if refused { ", and an end" } else { "" };
         let _ = println!(rt; "{text}: states {}, facts {}, frames {}, plans {}, choices {}{end}", c[0], c[4], c[1], c[2], c[3]);

@@ -16,10 +16,7 @@ TABLES = [
     (["rules"], "fvn_tests_rules/src/tests/rules.rt", "RULES"),
     (["matchers"], "fvn_tests_matching/src/tests/patterns.rt", "ROWS"),
     (["refinements"], "fvn_tests_matching/src/tests/refinements.rt", "ROWS"),
-    (["partitions"], "fvn_tests_combine/src/tests/partitions.rt", "PARTITIONS"),
     (["splits"], "fvn_tests_combine/src/tests/splits.rt", "SPLITS"),
-    (["openings"], "fvn_tests_combine/src/tests/openings.rt", "OPENED"),
-    (["openings", "elements"], "fvn_tests_combine/src/tests/openings.rt", "OPENED_WITH_ELEMENTS"),
 ]
 
 

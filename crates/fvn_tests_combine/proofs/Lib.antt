@@ -1,3 +1,1 @@
 -- The lemmas of the crate.
-mod Asking
-mod Givens

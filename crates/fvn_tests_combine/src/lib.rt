@@ -1,4 +1,4 @@
-//! Tests of tables of problems, purification, openings and unifiers, through the public calls of their crates: each of these is proved once, and not again with its tests, and what tests share is proved once for all of them.
+//! Tests of purification and of the solver modulo the axioms, through the public calls of their crates: each of these is proved once, and not again with its tests, and what tests share is proved once for all of them.
 #![tactic(auto)]
 
 #[cfg(test)]

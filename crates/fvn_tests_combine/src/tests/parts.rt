@@ -1,27 +1,38 @@
 //! Writes parts and splits of tests.
-use super::tables::push_after;
 use fvn_purify::{Classes, Head, Split};
 use fvn_terms::{NoMemory, OpId};
+use std::alloc::Global;
 
-/// The number of a node is a sign from 0 on.
+/// The sign with this number from the first on.
+fn push_sign(out: &mut String, first: u8, number: usize) -> Result<(), NoMemory> {
+    out.push(char::from(first.wrapping_add((number % 40) as u8)))?;
+    Ok(())
+}
+
+/// The number of a node or a class is a sign from 0 on.
 fn push_numbers(out: &mut String, list: &[usize]) -> Result<(), NoMemory> {
     for i in list {
-        push_after(out, b'0', *i)?;
+        push_sign(out, b'0', *i)?;
     }
     Ok(())
 }
 
 fn push_pairs(out: &mut String, list: &[(usize, usize)]) -> Result<(), NoMemory> {
     for (i, j) in list {
-        push_after(out, b'0', *i)?;
-        push_after(out, b'0', *j)?;
+        push_numbers(out, &[*i, *j])?;
     }
     Ok(())
 }
 
+/// A mark, where there is one, and the letter of an operator.
+fn push_operator(out: &mut String, mark: &str, f: OpId) -> Result<(), NoMemory> {
+    out.push_str(mark)?;
+    push_sign(out, b'f', usize::from(f.0))
+}
+
 fn push_operators(out: &mut String, list: &[OpId]) -> Result<(), NoMemory> {
     for f in list {
-        push_after(out, b'f', usize::from(f.0))?;
+        push_operator(out, "", *f)?;
     }
     Ok(())
 }
@@ -37,30 +48,14 @@ pub fn push_classes(out: &mut String, classes: &Classes) -> Result<(), NoMemory>
     push_operators(out, classes.ops.as_slice())
 }
 
-fn push_head(out: &mut String, head: Head) -> Result<(), NoMemory> {
-    match head {
-        Head::Free => {
-            out.push_str("F")?;
-            Ok(())
-        }
-        Head::Pair(f) => {
-            out.push_str("P")?;
-            push_after(out, b'f', usize::from(f.0))
-        }
-        Head::Sum(f) => {
-            out.push_str("S")?;
-            push_after(out, b'f', usize::from(f.0))
-        }
-        Head::Identity(e) => {
-            out.push_str("I")?;
-            push_after(out, b'f', usize::from(e.0))
-        }
-    }
-}
-
 fn push_heads(out: &mut String, heads: &[Head]) -> Result<(), NoMemory> {
     for head in heads {
-        push_head(out, *head)?;
+        match head {
+            Head::Free => out.push_str("F")?,
+            Head::Pair(f) => push_operator(out, "P", *f)?,
+            Head::Sum(f) => push_operator(out, "S", *f)?,
+            Head::Identity(e) => push_operator(out, "I", *e)?,
+        }
     }
     Ok(())
 }
@@ -72,12 +67,13 @@ fn push_ways(out: &mut String, swaps: &[bool]) -> Result<(), NoMemory> {
     Ok(())
 }
 
-/// The numbers of the classes, the heads, and for each pair a cross or a dash.
-pub fn push_split(out: &mut String, split: &Split) -> Result<(), NoMemory> {
-    out.push_str(" ")?;
-    push_numbers(out, split.class_of.as_slice())?;
+/// Behind a space the numbers of the classes, the heads, and for each pair a cross or a dash.
+pub fn text_of(alloc: Global, split: &Split) -> Result<String, NoMemory> {
+    let mut out = String::from_str(alloc, " ")?;
+    push_numbers(&mut out, split.class_of.as_slice())?;
     out.push_str(":")?;
-    push_heads(out, split.heads.as_slice())?;
+    push_heads(&mut out, split.heads.as_slice())?;
     out.push_str(":")?;
-    push_ways(out, split.swaps.as_slice())
+    push_ways(&mut out, split.swaps.as_slice())?;
+    Ok(out)
 }

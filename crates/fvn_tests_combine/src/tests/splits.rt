@@ -1,13 +1,21 @@
 //! Parts of problems, and all their splits.
-use super::rows::{Asked, OPERATORS, assert_table};
-use super::splitting::push_problem;
+ghost use Rattle.fvn_terms.specs.Unifiers.{Problem};
+ghost use Rattle.fvn_flat.specs.Problems.{IsProblem};
+ghost use Rattle.fvn_flat.specs.Solving.{problem_of};
+ghost use Rattle.fvn_purify.specs.Parts.{AreClassesOf};
+
+use super::parts::{push_classes, text_of};
+use super::unifiers::OPERATORS;
+use fvn_flat::Pairs;
+use fvn_purify::{Classes, purify, splits};
 use fvn_signature::Signature;
 use fvn_terms::NoMemory;
-use fvn_tests_samples::problem_of;
+use fvn_tests_samples::{are_sides, problem_of as read_problem, signature_of};
 use std::alloc::Global;
+use std::process::Abort;
 
 // A problem; the nodes of its parts, of those with a head and of its pairs, and its operators with axioms; all
-// its splits, in any order.
+// its splits.
 //
 // A term is written with each operator after its arguments, sums nested to the right. A split has the number of
 // each part's class, the head of each part that has one, and a cross or a dash for each pair.
@@ -59,65 +67,85 @@ A0 = A0 A1 l =>  |  |  | l => ::
 A0 = A1 A2 l =>  |  |  | l => ::
 A0 h A0 h j = f h f h j => 14 |  | 25 | j => 00::-";
 
-/// Whether the word is one of the text.
-fn has_word(text: &str, word: &str) -> bool {
-    for other in text.split(' ') {
-        if other == word {
-            return true;
-        }
-    }
-    false
-}
+// Deep terms: two variables under as many operators are one; two constants are not. A star stands for the operator h
+// 198 times; the sign of a node is that of its number modulo 40.
+const DEEP: &str = "A0* = A1*; A0 = A1 => 0W | 0W |  |  => 00:FF:
+f* = g*; A0 = A1 => VW | VW |  |  =>";
 
-/// Whether each word of the one text is one of the other, and both are as long.
-fn are_words(given: &str, splits: &str) -> bool {
-    if given.len() != splits.len() {
-        return false;
-    }
-    for word in given.split(' ') {
-        if !has_word(splits, word) {
-            return false;
-        }
-    }
-    true
-}
-
-/// What stands before the splits, and the splits.
-fn cut(text: &str) -> (&str, &str) {
-    match text.split_once(" => ") {
-        Some(both) => both,
-        None => (text, ""),
-    }
-}
-
-/// Whether the parts are these, each split is one of these, and all together are as long.
-fn is_same(out: &str, want: &str) -> bool {
-    let (parts, given) = cut(out);
-    let (wanted, splits) = cut(want);
-    if parts != wanted {
-        return false;
-    }
-    are_words(given, splits)
-}
-
-/// The parts of the problem, and its splits: as they are wanted, where these are they in another order.
-pub fn shown_splits(
+/// The splits that are given, in the order of their texts.
+fn push_splits(
     alloc: Global,
     sig: &Signature,
-    text: &str,
-    want: &str,
-) -> Result<String, NoMemory> {
+    classes: &Classes,
+    out: &mut String,
+) -> Result<(), NoMemory>
+    requires classes { (problem : Problem) ×
+        IsProblem sig.now problem × AreClassesOf sig.now problem classes.now }
+{
+    let mut texts = Vec::new(alloc);
+    let mut cursor = splits(alloc, sig, classes)?;
+    'given: loop {
+        match cursor.advance()? {
+            None => {
+                texts.sort()?;
+                out.push_str(texts.as_slice().join(alloc, "")?.as_str())?;
+                return Ok(());
+            }
+            Some(split) => texts.push(text_of(alloc, &split)?)?,
+        }
+    }
+}
+
+/// The parts of a problem, and its splits.
+fn push_parts(
+    alloc: Global,
+    sig: &Signature,
+    problem: &Pairs,
+    out: &mut String,
+) -> Result<(), NoMemory>
+    requires kinds { IsProblem sig.now (problem_of problem.now) }
+{
+    let classes = purify(alloc, sig, problem)?;
+    push_classes(out, &classes)?;
+    out.push_str(" =>")?;
+    push_splits(alloc, sig, &classes, out)
+}
+
+/// The same of the pairs that are written, with the operator h 198 times in place of each star.
+fn shown_splits(alloc: Global, sig: &Signature, text: &str) -> Result<String, NoMemory> {
     let mut out = String::new(alloc);
-    if let Some(problem) = problem_of(alloc, sig, text)? {
-        push_problem(alloc, sig, &problem, &mut out)?;
+    let often = " h".repeat(alloc, 198)?;
+    let whole = text.replace(alloc, "*", often.as_str())?;
+    let Some(problem) = read_problem(alloc, sig, whole.as_str())? else {
+        return Ok(out);
+    };
+    if !are_sides(alloc, sig, &problem)? {
+        return Ok(out);
     }
-    if is_same(out.as_str(), want) {
-        return Ok(String::from_str(alloc, want)?);
-    }
+    push_parts(alloc, sig, &problem, &mut out)?;
     Ok(out)
+}
+
+/// Each row has these parts and splits.
+fn assert_splits(rt: &impl Abort, alloc: Global, lines: &str) -> Result<(), NoMemory> {
+    let Some(sig) = signature_of(alloc, OPERATORS)? else {
+        return Err(NoMemory);
+    };
+    for line in lines.lines() {
+        let (text, want) = line.split_once(" => ").unwrap_or((line, "no row"));
+        let found = shown_splits(alloc, &sig, text)?;
+        assert_eq!(rt; found.as_str(), want, "at {text}");
+    }
+    Ok(())
 }
 
 #[test]
 fn all_splits_are_given(rt: HostRuntime) -> Result<(), NoMemory> {
-    assert_table(&rt, rt.alloc(), Asked::Splits, OPERATORS, SPLITS)
+    assert_splits(&rt, rt.alloc(), SPLITS)
+}
+
+/// A term is not under itself, and no cycle is looked for.
+#[test]
+fn deep_terms_have_one_split_or_none(rt: HostRuntime) -> Result<(), NoMemory> {
+    assert_splits(&rt, rt.alloc(), DEEP)
 }
