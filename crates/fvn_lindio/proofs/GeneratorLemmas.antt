@@ -12,7 +12,7 @@ use Rattle.fvn_lindio.specs.inner.Search.{Lies}
 use Rattle.fvn_lindio.specs.inner.Levels.{Generates}
 use Rattle.fvn_lindio.specs.inner.Generators.{Adds, IsValued, Values, IsNewUnit, IsNewUnitBelow, vectors_in}
 use Rattle.fvn_lindio.specs.declared.level.Point.{Point}
-use Rattle.fvn_lindio.proofs.VectorLemmas.{sum-cons, sides-zero}
+use Rattle.fvn_lindio.proofs.VectorLemmas.{sum-cons, sides-zero, below_same, below_get_or}
 use Rattle.fvn_lindio.proofs.ValueLemmas.{zero-both}
 use Rattle.fvn_lindio.proofs.Solving.{minimal_below}
 use Rattle.fvn_lindio.proofs.LevelLemmas.{pushed_old, pushed_new, pushed_cases}
@@ -227,10 +227,19 @@ module _ (columns : ℕ) (before : List (List ℤ)) (row : List ℤ) (known : Li
           at j u (inl l) = none j l u
           at j u (inr l) = get_or_past z j 0 (omega (arith, l, h.sized))
 
+  kind_least : (v : List ℕ) → Kind v → (y : List ℕ) → Lies columns before whole y → IsNonZero y → IsAtOrBelow y v → y ≡ v
+  kind_least v (inl h) y l n b =
+      let m = (exact v).0 h in
+      m.least y (record { sized = l.sized; zero_rows = l.zero_rows; unused = λ j u. omega (arith, below_get_or y v j b, m.solves.unused j u) }) n b
+  kind_least v (inr h) y l n b =
+      let e : unit_of columns h.0 ≡ v = sym h.2.2 in
+      subst (λ w. IsAtOrBelow y w → y ≡ w) e (λ k. below_same y (unit_of columns h.0) k (omega (arith, sum-unit columns h.0 h.1, n))) b
+
   pub generates_from : Generates columns before row points
   generates_from =
       record {
         points = λ g m. let k = kind g m in let l = kind_lies g.parts.items k.0 in record { lies = l.0; nonzero = l.1; exact = k.1.exact };
         narrow = λ g m. (kind_lies g.parts.items (kind g m).0).2;
         under = under;
+        least = λ g m y l n b. kind_least g.parts.items (kind g m).0 y l n b;
       }

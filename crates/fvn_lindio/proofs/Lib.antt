@@ -9,5 +9,7 @@ mod Trails
 mod GeneratorLemmas
 mod ReachLemmas
 mod LeastLemmas
+mod PairLemmas
+mod Pairs
 mod Prefixes
 mod SystemLemmas

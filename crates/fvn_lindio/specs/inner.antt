@@ -3,3 +3,4 @@ pub mod Search
 pub mod Levels
 pub mod Generators
 pub mod Least
+pub mod Paired

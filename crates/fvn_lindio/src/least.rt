@@ -42,7 +42,10 @@ fn stands_at(list: &[SmallVec<u64, 8>], place: usize, parts: &[u64]) -> bool
 }
 
 /// Puts the vector into the list at its place, unless it is there already.
-fn insert(list: &mut Vec<SmallVec<u64, 8>>, v: SmallVec<u64, 8>) -> Result<(), AllocError>
+pub(crate) fn insert(
+    list: &mut Vec<SmallVec<u64, 8>>,
+    v: SmallVec<u64, 8>,
+) -> Result<(), AllocError>
     requires sized { All (λ w. length w ≡ length v.items) (vectors_in list.old.items) }
     requires ordered { AllPairs IsBefore (vectors_in list.old.items) }
     ensures ordered { OnOk result (AllPairs IsBefore (vectors_in list.new.items)) }

@@ -6,6 +6,7 @@ mod generators;
 mod laws;
 mod least;
 mod level;
+mod paired;
 mod rows;
 mod solve;
 mod system;

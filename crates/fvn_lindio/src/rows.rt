@@ -7,6 +7,7 @@ ghost use Rattle.fvn_lindio.specs.inner.Generators.{IsRow, vectors_in};
 use crate::generators::{generators, reach_of};
 use crate::least::least_of;
 use crate::level::Level;
+use crate::paired::{are_paired, sums_of};
 use crate::system::Row;
 use fvn_base::limits::COMPONENT;
 use smallvec::SmallVec;
@@ -17,7 +18,8 @@ use std::alloc::{AllocError, Global};
 /// The search goes level by level: to a vector one of `known`, or a unit of a new column, is added
 /// only where the row's values at the two have opposite signs, and only where no solution found is
 /// at or below the sum. A path to a minimal solution meets no value twice, so it is no longer than
-/// the greatest value above zero and the greatest below it together.
+/// the greatest value above zero and the greatest below it together. Where the values are at most one
+/// from zero and all vectors on one side are units, the solutions are told without a search.
 pub(crate) fn extended(
     alloc: Global,
     before: &[Row],
@@ -34,6 +36,10 @@ pub(crate) fn extended(
         ↔ IsMinimal (length row.now) (coefficients_of before.now ++ row.now ∷ []) v) }
 {
     let points = generators(alloc, before, row, known)?;
+    if are_paired(points.as_slice()) {
+        let sums = sums_of(alloc, points.as_slice())?;
+        return Ok(sums);
+    }
     let reach = reach_of(points.as_slice());
     let mut level = Level::first(alloc, points.as_slice())?;
     for _ in 0..reach.low + reach.high + 1 {

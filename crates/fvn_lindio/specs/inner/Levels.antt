@@ -71,8 +71,9 @@ module _ (columns : ℕ) (before : List (List ℤ)) (row : List ℤ) where
     pub nonzero : IsNonZero p.parts.items
     pub exact : IsValue row p.parts.items p.value
 
-  -- such vectors with small components, of which one is at or below each vector of the kind
+  -- such vectors with small components, of which one is at or below each vector of the kind, and no other below one of them
   pub record Generates (generators : List Point) : Type 0 where
     pub points : (g : Point) → Contains generators g → IsPoint g
     pub narrow : (g : Point) → Contains generators g → All (λ a. a ≤ COMPONENT) g.parts.items
     pub under : (z : List ℕ) → Lies columns before (before ++ row ∷ []) z → IsNonZero z → (g : Point) × Contains generators g × IsAtOrBelow g.parts.items z
+    pub least : (g : Point) → Contains generators g → (z : List ℕ) → Lies columns before (before ++ row ∷ []) z → IsNonZero z → IsAtOrBelow z g.parts.items → z ≡ g.parts.items
