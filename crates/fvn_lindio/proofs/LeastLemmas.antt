@@ -91,15 +91,19 @@ vectors-insert list i v =
 pub vector_at : (list : List (SmallVec ℕ)) (i : ℕ) (x : SmallVec ℕ) (d : List ℕ) → i < length list → x ≡ get_or list i x → get_or (vectors_in list) i d ≡ x.items
 vector_at list i x d l e = get_or-map (λ w. w.items) list i x d l ∙ ap (λ w. w.items) (sym e)
 
--- one more stands before the vector
-pub earlier_more : (xs : List (List ℕ)) (v : List ℕ) (i : ℕ) → i < length xs → ((d : List ℕ) → IsBefore (get_or xs i d) v) → ((k : ℕ) (d : List ℕ) → k < i → IsBefore (get_or xs k d) v) → (k : ℕ) (d : List ℕ) → k < i + 1 → IsBefore (get_or xs k d) v
-earlier_more xs v i l here before k d m = go (cases_lt k i)
+-- the place behind the last vector that stands before
+pub place_after : (xs : List (List ℕ)) (v : List ℕ) (i : ℕ) → AllPairs IsBefore xs → i < length xs → ((d : List ℕ) → IsBefore (get_or xs i d) v) → ((d : List ℕ) → i + 1 < length xs → IsBefore (get_or xs (i + 1) d) v → ⊥) → IsPlace xs v (i + 1)
+place_after xs v i ordered l here next = record { within = omega (arith, l); earlier = λ k d m. go k d m (cases_lt k i); here = next }
   where
-    go : (k < i) ⊎ (i ≤ k) → IsBefore (get_or xs k d) v
-    go (inl a) = before k d a
-    go (inr a) =
-        let e : i ≡ k = omega arith in
+    go : (k : ℕ) (d : List ℕ) → k < i + 1 → (k < i) ⊎ (i ≤ k) → IsBefore (get_or xs k d) v
+    go k d m (inl a) = before_trans (get_or xs k d) (get_or xs i d) v (ordered k i d a l) (here d)
+    go k d m (inr a) =
+        let e : i ≡ k = omega (arith, m, a) in
         subst (λ j. IsBefore (get_or xs j d) v) e (here d)
+
+-- the first place, where none stands before
+pub no_place : (xs : List (List ℕ)) (v : List ℕ) (n i : ℕ) → n ≤ i → length xs ≡ n → ((d : List ℕ) → 0 < i → IsBefore (get_or xs (n - i) d) v → ⊥) → IsPlace xs v 0
+no_place xs v n i l e none = record { within = omega arith; earlier = λ k d m. absurd (omega (arith, m)); here = λ d m h. let z : 0 ≡ n - i = omega (arith, l) in none d (omega (arith, m, e, l)) (subst (λ k. IsBefore (get_or xs k d) v) z h) }
 
 -- after an insert at the place of a vector that is not there
 module _ (list new : List (SmallVec ℕ)) (v : SmallVec ℕ) (place : ℕ) (is : new ≡ insert list place v) (sized : All (λ w. length w ≡ length v.items) (vectors_in list)) (ordered : AllPairs IsBefore (vectors_in list))

@@ -21,17 +21,19 @@ fn has_other_below(points: &[Point], parts: &[u64]) -> bool
     false
 }
 
-/// The number of vectors in the list that stand before this one.
+/// The number of vectors in the list that stand before this one; most stand before, so that the last are looked at first.
 fn place_of(list: &[SmallVec<u64, 8>], parts: &[u64]) -> usize
-    requires { All (λ v. length v ≡ length parts.now) (vectors_in list.now) }
+    requires sized { All (λ v. length v ≡ length parts.now) (vectors_in list.now) }
+    requires ordered { AllPairs IsBefore (vectors_in list.now) }
     ensures { IsPlace (vectors_in list.now) parts.now result }
 {
-    for (i, v) in list.iter().enumerate() {
-        if !is_before(v.as_slice(), parts) {
-            return i;
+    for i in 0..list.len() {
+        let last = list.len() - 1 - i;
+        if is_before(list[last].as_slice(), parts) {
+            return last + 1;
         }
     }
-    list.len()
+    0
 }
 
 /// Whether the vector stands at this place of the list.

@@ -1,5 +1,7 @@
 -- The vector stands at its place.
-use Rattle.std.proofs.Common.{subst}
+use Rattle.std.proofs.Common.{subst, sym}
+use Rattle.std.specs.List.{AllPairs}
+use Rattle.fvn_base.specs.Order.{IsBefore}
 use Rattle.fvn_lindio.specs.inner.Generators.{vectors_in}
 use Rattle.fvn_lindio.specs.inner.Least.{IsPlace, StandsAt}
 use Rattle.fvn_lindio.proofs.LeastLemmas.{insert_ordered, insert_exact, not_false}
@@ -18,6 +20,9 @@ absent c =
     let fresh = not_false c.stands_at.result c.if-stands_at.false c.stands_at.ensures.1 in
     subst (λ z. StandsAt (vectors_in c.args.list.now.items) place z → ⊥) c.as_slice-4.ensures
     (subst (λ z. StandsAt (vectors_in z) place c.as_slice-4.result.now → ⊥) c.as_slice-3.ensures.value fresh)
+
+pub place_of-place-requires-clause-ordered : goal.place_of-place-requires-clause-ordered
+place_of-place-requires-clause-ordered c = subst (λ z. AllPairs IsBefore (vectors_in z)) (sym c.as_slice.ensures.value) c.requires.ordered
 
 pub returns-clause-ordered : goal.returns-clause-ordered
 returns-clause-ordered c =

@@ -1,8 +1,8 @@
--- Those so far stand before the vector.
-use Rattle.std.proofs.Common.{ℕ, List, ◌<◌, get_or}
+-- The last vectors so far do not stand before the vector.
+use Rattle.std.proofs.Common.{ℕ, List, ◌<◌, ◌-◌, get_or, length}
 use Rattle.fvn_base.specs.Order.{IsBefore}
 use Rattle.fvn_lindio.specs.inner.Generators.{vectors_in}
 use Rattle.fvn_lindio.proofs.least.place_of.Given as goal
 
 abbrev pub invariant-loop-i : goal.invariant-loop-i
-invariant-loop-i l = (k : ℕ) (d : List ℕ) → k < l.i → IsBefore (get_or (vectors_in l.list) k d) l.parts
+invariant-loop-i l = (d : List ℕ) → 0 < l.i → IsBefore (get_or (vectors_in l.list) (length l.list - l.i) d) l.parts → ⊥
