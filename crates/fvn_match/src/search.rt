@@ -25,7 +25,7 @@ use crate::answers::answer;
 use crate::choices::{advanced, quotients, reduced, zeros};
 use crate::goals::{Bound, Goals, SumGoal, Sums};
 use crate::known::{has_known, without_known};
-use crate::pairing::has_sort_of;
+use crate::pairing::{has_sort_of, is_sorted_above};
 use crate::summands::{after, alike, count_pieces, is_headed, reversed, summands};
 use crate::wholes::{are_zero, is_short, room, whole};
 use fvn_flat::{Flat, Subst};
@@ -207,6 +207,9 @@ impl Search<'_> {
         ensures { IfOk result (SearchesPair self.now p.now t.now rest.now sums.now bound.now) }
     {
         self.sig.recall_good();
+        if is_sorted_above(self.sig, p, t) {
+            return Ok(None);
+        }
         let patterns = reversed(self.alloc, p.args())?;
         let counted = count_pieces(self.alloc, summands(self.sig, f, t))?;
         let goal = SumGoal {

@@ -20,7 +20,7 @@ use Rattle.fvn_match.proofs.Advancing.{zeros_within, rises, place_value_bounded,
 use Rattle.fvn_match.proofs.SummandLists.{parts_in_order}
 use Rattle.fvn_match.proofs.Runs.{length_references, references-drop}
 use Rattle.fvn_match.proofs.PairSteps.{zip_parted, variable_is, variable_or_head}
-use Rattle.fvn_match.proofs.PairFinding.{zip_long, to_rest, two_is, one_more_candidate, if_found_bound, refused_sort, found_known, refused_known, found_straight_of, found_across_of, crossing_pairs, found_values, found_no_pairs, found_list, refused_unheaded, pairs_of_args, as_many_args, found_free, crossing_args, two_of_patterns, two_of_targets, found_commutative}
+use Rattle.fvn_match.proofs.PairFinding.{zip_long, to_rest, two_is, one_more_candidate, if_found_bound, refused_sort, refused_above, found_known, refused_known, found_straight_of, found_across_of, crossing_pairs, found_values, found_no_pairs, found_list, refused_unheaded, pairs_of_args, as_many_args, found_free, crossing_args, two_of_patterns, two_of_targets, found_commutative}
 use Rattle.fvn_match.proofs.SumFitting.{started_fits, smaller_fits}
 use Rattle.fvn_match.proofs.SumFinding.{IsTried, no_patterns, group_of, group_within, choice_within, as_long, length_quotients, each_itself, refused_short, refused_closed, found_open, open_fits, open_weight, refused_left, found_taken, found_only, found_choices, tried_none, found_choice, tried_one, tried_all}
 use Rattle.fvn_match.proofs.ChoiceFinding.{refused_whole, whole_pair, left_fits, found_whole}
@@ -260,6 +260,11 @@ summed-summands-requires-clause-settled t c = c.requires.pair.target
 
 pub summed-count_pieces-requires : goal.summed-count_pieces-requires
 summed-count_pieces-requires t c = subst InOrder (sym c.summands.ensures) (parts_in_order c.args.self.now.sig.now c.args.f c.args.t.now c.requires.pair.target)
+
+pub summed-returns-then-is_sorted_above : goal.summed-returns-then-is_sorted_above
+summed-returns-then-is_sorted_above t c =
+    refused_above c.args.self.now.sig.now c.recall_good.ensures c.args.p.now c.args.t.now c.requires.pair (c.is_sorted_above.ensures c.if-is_sorted_above.true) (bindings_of c.args.bound.now) c.args.self.now.vars.now
+    (Asked c.args.self.now.sig.now c.args.rest.now c.args.sums.now)
 
 pub summed-solve-requires : goal.summed-solve-requires
 summed-solve-requires t c =
