@@ -1,0 +1,5 @@
+-- What the tests told.
+use Rattle.fvn_narrow.proofs.pairing.is_inner.Goals as goal
+
+pub returns : goal.returns
+returns c = λ yes. record { met = c.in_ok-met.ensures yes; among = c.are_within-within.ensures c.if-not-within.false }
