@@ -112,7 +112,7 @@ module _ (d : Declarations) (good : IsGood d) (lists : RuleLists) (given : AreRu
         let kinds = two_kinded d good f t.associative t.no_identity met.inner.left t.first t.second inner_fits t.heads t.are_two in
         let low = are_lowered d good f t.associative t.no_identity joined.rank joined.listed inner_fits.kinded.0 joined.result t.first t.second fit.0.flat fit.1.0.flat kinds.0 kinds.1.0 t.by_first t.by_second by meet.right in
         steps t.associative t.no_identity t.first t.second t.are_two
-        record { pair = of_lowered d good f t.associative t.no_identity equations met.inner.left t.first t.second inner_fits t.heads t.are_two inner_steps by low; had_first = low.had_first; had_second = low.had_second }
+        (of_lowered d good f t.associative t.no_identity equations met.inner.left t.first t.second inner_fits t.heads t.are_two inner_steps by low)
 
     by_some : IsMetBySome d equations f met.inner.left → IsReducibleInPart d equations f at s
     by_some t = steps t.associative t.no_identity (fvar t.variable) t.form t.are_two (pair_for_both d good equations rewriting f met.inner.left inner_fits inner_steps t by meet.right)

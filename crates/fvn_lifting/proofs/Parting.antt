@@ -65,6 +65,12 @@ pub record IsReduciblePair (d : Declarations) (equations : Equations) (f : OpId)
   pub b : FlatTerm
   pub counts : (q : FlatTerm) → count q (parts d f (canon d term)) ≡ count q (a ∷ b ∷ [])
 
+-- a reducible sum of one summand of each of the two
+pub record HasReduciblePair (d : Declarations) (equations : Equations) (f : OpId) (k : SortId) (first second : List FlatTerm) : Type 0 where
+  pub pair : IsReduciblePair d equations f k
+  pub had_first : 1 ≤ count pair.a first
+  pub had_second : 1 ≤ count pair.b second
+
 module _ (d : Declarations) (good : IsGood d) (f : OpId) (assoc : IsAssociative (axioms d f)) (no_identity : identity (axioms d f) ≡ None) where
   -- the two summands of a form that fits
   module _ (t first second : FlatTerm) (fits : Fits d t) (heads : head_of t ≡ Some f) (are_two : args_of t ≡ first ∷ second ∷ []) where
@@ -127,25 +133,24 @@ module _ (d : Declarations) (good : IsGood d) (f : OpId) (assoc : IsAssociative 
 
   -- what is lowered to two summands has an instance of just these
   pub of_lowered : (equations : Equations) (left first second : FlatTerm) (fits : Fits d left) → head_of left ≡ Some f → args_of left ≡ first ∷ second ∷ [] →
-      ((s : Substitution) → IsWellSorted d s → IsReducible d equations (apply s (plain left))) → (s : Substitution) → AreLowered d good f assoc no_identity first second s → IsReduciblePair d equations f fits.kinded.0
+      ((s : Substitution) → IsWellSorted d s → IsReducible d equations (apply s (plain left))) → (s : Substitution) → AreLowered d good f assoc no_identity first second s →
+      HasReduciblePair d equations f fits.kinded.0 (summands d good f assoc no_identity s first) (summands d good f assoc no_identity s second)
   of_lowered equations left first second fits heads are_two steps s low = record {
-    term = apply low.by (plain left);
-    of_kind = HasKind-apply d low.by low.sorted.0 (plain left) fits.kinded.0 fits.kinded.1;
-    reducible = steps low.by low.sorted;
-    a = low.a;
-    b = low.b;
-    counts = counts;
+    pair = record {
+      term = apply low.by (plain left);
+      of_kind = HasKind-apply d low.by low.sorted.0 (plain left) fits.kinded.0 fits.kinded.1;
+      reducible = steps low.by low.sorted;
+      a = low.a;
+      b = low.b;
+      counts = counts;
+    };
+    had_first = low.had_first;
+    had_second = low.had_second;
   } where
     counts : (q : FlatTerm) → count q (parts d f (canon d (apply low.by (plain left)))) ≡ count q (low.a ∷ low.b ∷ [])
     counts q =
         instance_counts d f assoc low.by left first (second ∷ []) fits.flat heads are_two q
         ∙ ap (count q) (ap (λ m. m ++ (summands d good f assoc no_identity low.by second ++ [])) low.one_first ∙ ap (λ m. low.a ∷ (m ++ [])) low.one_second)
-
--- a reducible sum of one summand of each of the two
-pub record HasReduciblePair (d : Declarations) (equations : Equations) (f : OpId) (k : SortId) (first second : List FlatTerm) : Type 0 where
-  pub pair : IsReduciblePair d equations f k
-  pub had_first : 1 ≤ count pair.a first
-  pub had_second : 1 ≤ count pair.b second
 
 had_first_of : (a : FlatTerm) (l m : List FlatTerm) → m ≡ a ∷ l → 1 ≤ count a m
 had_first_of a l m e = subst (λ n. 1 ≤ count a n) (sym e) (let c = count_itself a l in omega (arith, c))
@@ -260,7 +265,7 @@ module _ (d : Declarations) (good : IsGood d) (equations : Equations) (rewriting
         value_elsewhere first_sent p.rest (plain others) z (λ q. p.rest_new (subst (λ (w : Var). Occurs w (plain form)) q o))
         ∙ value_elsewhere s p.one (plain b) z (λ q. p.one_new (subst (λ (w : Var). Occurs w (plain form)) q o))
 
-    v : Var → FlatTerm
+    abbrev v : Var → FlatTerm
     v z = canon d (sent z)
 
     v_settled : (z : Var) → Settled d (v z)
