@@ -31,8 +31,8 @@ spread-requires c =
       kind = subst (λ (w : FlatTerm). HasKind d (plain w) (kind d x.sort)) (sym is) (both_kind d c.recall_good.ensures c.args.f x c.args.form.now c.requires.sum one rest c.requires.sorts.0 c.requires.sorts.1);
     }
 
-pub sum_of_two-2-requires : goal.sum_of_two-2-requires
-sum_of_two-2-requires c =
+pub sum_of_two-requires-2 : goal.sum_of_two-requires-2
+sum_of_two-requires-2 c =
     let d = c.args.sig.now in
     let f = c.args.f in
     let x = c.args.x in
