@@ -7,6 +7,7 @@ pub mod Parts
 mod Summands
 mod Singles
 pub mod PairForms
+pub mod Parting
 pub mod PairSteps
 mod PairRules
 mod Within

@@ -1,5 +1,5 @@
 -- A needed rule that is met by two is a rule of the equations, so that the law of sums speaks of it.
-use Rattle.std.proofs.Common.{◌≡◌, ◌≤◌, ℕ, true, false, List, ◌∷◌, Some, refl, sym, ◌∙◌, subst, inl, inr, arith}
+use Rattle.std.proofs.Common.{◌≡◌, ◌≤◌, ℕ, true, false, List, [], ◌∷◌, None, Some, refl, sym, ◌∙◌, subst, inl, inr, arith}
 use Rattle.std.specs.Prelude.{slice_get}
 use Rattle.std.specs.List.{Contains}
 use Rattle.std.proofs.lemmas.Option.{slice_get_within, get_or_from_slice_get}
@@ -10,8 +10,10 @@ use Rattle.fvn_terms.specs.declared.declarations.Declarations.{Declarations}
 use Rattle.fvn_terms.specs.Term.{Term, var, none}
 use Rattle.fvn_terms.specs.Signature.{axioms, HaveKinds}
 use Rattle.fvn_terms.specs.Substitution.{Substitution, apply}
-use Rattle.fvn_terms.specs.Equality.{two, IsAssociative}
+use Rattle.fvn_terms.specs.Equality.{two, IsAssociative, identity}
 use Rattle.fvn_terms.specs.Theory.{Equations}
+use Rattle.fvn_terms.specs.Sorts.{IsWellSorted}
+use Rattle.fvn_terms.specs.Rewriting.{IsReducible}
 use Rattle.fvn_terms.specs.Laws.{RewritingLaws}
 use Rattle.fvn_forms.specs.Flat.{FlatTerm, fvar, fapp, fnone, fmore, funpack, plain}
 use Rattle.fvn_forms.specs.Settled.{Settled}
@@ -21,12 +23,15 @@ use Rattle.fvn_forms.proofs.Eval.{canon_settled}
 use Rattle.fvn_theory.specs.Equations.{sides_of, equations_of}
 use Rattle.fvn_flat.specs.Fits.{Fits}
 use Rattle.fvn_flat.specs.Forms.{head_of, args_of}
+use Rattle.fvn_flat.specs.FlatPlaces.{IsDivided}
 use Rattle.fvn_flat.specs.Rules.{IsRuleFrom, IsRuleOf}
-use Rattle.fvn_rewrite_laws.specs.Laws.{RuleLaws}
+use Rattle.fvn_rewrite_laws.specs.Laws.{KindedLaws, RuleLaws}
 use Rattle.fvn_rewrite_rules.specs.declared.rule.Rule.{Rule}
 use Rattle.fvn_rewrite_rules.specs.Given.{RuleLists, AreRules, IsNumberedRule, headed}
 use Rattle.fvn_lifting.specs.Meetings.{Meet}
-use Rattle.fvn_lifting.specs.Pairs.{IsMetByTwo, IsMetInPairs, IsReducibleInPart}
+use Rattle.fvn_lifting.specs.Pairs.{IsMetByTwo, IsMetBySome, IsMet, IsMetInPairs, IsReducibleInPart}
+use Rattle.fvn_lifting.proofs.Singles.{summands, are_lowered}
+use Rattle.fvn_lifting.proofs.Parting.{HasReduciblePair, two_fit, joined_kinded, two_kinded, of_lowered, pair_for_both}
 use Rattle.fvn_lifting.proofs.PairSteps.{steps_in_part}
 
 sides_settled : (d : Declarations) (equation : Term × Term) (l r : FlatTerm) → IsRuleFrom d equation l r → Settled d l
@@ -55,7 +60,7 @@ one_operator f g e = cc
 item_in : {A : Type 0} (l : List A) (i : ℕ) (a : A) → slice_get l i ≡ Some a → Contains l a
 item_in l i a e = (i, slice_get_within l i a e, get_or_from_slice_get l i a a e)
 
-module _ (d : Declarations) (good : IsGood d) (lists : RuleLists) (given : AreRules d lists) (rewriting : RewritingLaws d (equations_of lists.equations)) (rules : RuleLaws d (equations_of lists.equations)) where
+module _ (d : Declarations) (good : IsGood d) (lists : RuleLists) (given : AreRules d lists) (rewriting : RewritingLaws d (equations_of lists.equations)) (kinded : KindedLaws d (equations_of lists.equations)) (rules : RuleLaws d (equations_of lists.equations)) where
   abbrev equations : Equations
   equations = equations_of lists.equations
 
@@ -77,22 +82,43 @@ module _ (d : Declarations) (good : IsGood d) (lists : RuleLists) (given : AreRu
     same : met.operator ≡ f
     same = one_operator met.operator f (sym met.heads ∙ heads_left f rule listed)
 
-    inner : Rule
-    inner = met.inner
-
     needed : Contains (headed lists f) met.inner
     needed = subst (λ o. Contains (headed lists o) met.inner) same met.needed
 
-    by_two : IsMetByTwo d f met.inner.left
-    by_two = subst (λ o. IsMetByTwo d o met.inner.left) same met.by_two
+    left_fits : (some : Rule) → Contains (headed lists f) some → Fits d some.left
+    left_fits some i = let kinds = rules.kinds some.left some.right (is_rule f some i) in record { flat = left_settled f some i; kinded = (kinds.kind, kinds.left) }
 
-    some_argument : HasSome at
-    some_argument = has_some d good.fits f by_two.associative at fits heads
+    inner_fits : Fits d met.inner.left
+    inner_fits = left_fits met.inner needed
+
+    inner_steps : (c : Substitution) → IsWellSorted d c → IsReducible d equations (apply c (plain met.inner.left))
+    inner_steps c sorted = (apply c (plain met.inner.right), rules.steps met.inner.left met.inner.right (is_rule f met.inner needed) c sorted)
+
+    -- two of the rule's summands, one of each of which are reducible as a sum
+    module _ (assoc : IsAssociative (axioms d f)) (no_identity : identity (axioms d f) ≡ None) (first second : FlatTerm) (two : args_of met.inner.left ≡ first ∷ second ∷ [])
+        (found : HasReduciblePair d equations f inner_fits.kinded.0 (summands d good f assoc no_identity by first) (summands d good f assoc no_identity by second)) where
+      some_argument : HasSome at
+      some_argument = has_some d good.fits f assoc at fits heads
+
+      steps : IsReducibleInPart d equations f at s
+      steps =
+          steps_in_part d good equations rewriting kinded f assoc no_identity inner_fits.kinded.0 found.pair s meet.left at some_argument.argument some_argument.rest fits heads some_argument.is first second by found.had_first found.had_second
+          rule.left (left_settled f rule listed) (heads_left f rule listed) met.others (subst (λ l. IsDivided (args_of rule.left) l met.others) two met.among) meet.equal
+
+    by_two : IsMetByTwo d f met.inner.left → IsReducibleInPart d equations f at s
+    by_two t =
+        let fit = two_fit d good f t.associative t.no_identity met.inner.left t.first t.second inner_fits t.heads t.are_two in
+        let joined = joined_kinded d good f t.associative t.no_identity met.inner.left t.first t.second inner_fits t.heads t.are_two in
+        let kinds = two_kinded d good f t.associative t.no_identity met.inner.left t.first t.second inner_fits t.heads t.are_two in
+        let low = are_lowered d good f t.associative t.no_identity joined.rank joined.listed inner_fits.kinded.0 joined.result t.first t.second fit.0.flat fit.1.0.flat kinds.0 kinds.1.0 t.by_first t.by_second by meet.right in
+        steps t.associative t.no_identity t.first t.second t.are_two
+        (of_lowered d good f t.associative t.no_identity equations met.inner.left t.first t.second inner_fits t.heads t.are_two inner_steps by low)
+
+    by_some : IsMetBySome d equations f met.inner.left → IsReducibleInPart d equations f at s
+    by_some t = steps t.associative t.no_identity (fvar t.variable) t.form t.are_two (pair_for_both d good equations rewriting f met.inner.left inner_fits inner_steps t by meet.right)
 
     pub sum_steps : IsReducibleInPart d equations f at s
-    sum_steps =
-        let is = is_rule f met.inner needed in
-        let kinds = rules.kinds met.inner.left met.inner.right is in
-        steps_in_part d good equations rewriting f met.inner.left met.inner.right record { flat = left_settled f met.inner needed; kinded = (kinds.kind, kinds.left) } kinds.right
-        (λ c sorted. rules.steps met.inner.left met.inner.right is c sorted) by_two s meet.left at some_argument.argument some_argument.rest fits heads some_argument.is
-        rule.left (left_settled f rule listed) (heads_left f rule listed) met.others met.among by meet.right meet.equal
+    sum_steps = go (subst (λ o. IsMet d equations o met.inner.left) same met.met) where
+      go : IsMet d equations f met.inner.left → IsReducibleInPart d equations f at s
+      go (inl t) = by_two t
+      go (inr t) = by_some t

@@ -36,13 +36,13 @@ use Rattle.fvn_lifting.specs.Pairs.{IsOneSummand, SummandsKeep, MeetsOne}
 use Rattle.fvn_lifting.proofs.Chosen.{chosen, chosen_if, chosen_unless, occurs_or_not, StandsFor, stands_at, sorted_each, chosen_stands}
 
 -- the substitution with this value for z
-abbrev with_value : Substitution → Var → Term → Substitution
+abbrev pub with_value : Substitution → Var → Term → Substitution
 with_value s z q x = chosen (occurs_or_not x (var z)) q (s x)
 
-value_there : (s : Substitution) (z : Var) (q : Term) → with_value s z q z ≡ q
+pub value_there : (s : Substitution) (z : Var) (q : Term) → with_value s z q z ≡ q
 value_there s z q = chosen_if (occurs_or_not z (var z)) q (s z) refl
 
-value_elsewhere : (s : Substitution) (z : Var) (q : Term) (x : Var) → (x ≡ z → ⊥) → with_value s z q x ≡ s x
+pub value_elsewhere : (s : Substitution) (z : Var) (q : Term) (x : Var) → (x ≡ z → ⊥) → with_value s z q x ≡ s x
 value_elsewhere s z q x n = chosen_unless (occurs_or_not x (var z)) q (s x) n
 
 -- the one form of a list
@@ -53,7 +53,7 @@ count_one q p h = go (same_flat q p) refl where
   go false e = let low : 1 ≤ 0 + 0 = rw e at h in absurd (omega (arith, low))
 
 module _ (d : Declarations) (good : IsGood d) where
-  with_value_sorted : (s : Substitution) (z : Var) (q : Term) → IsWellSorted d s → HasKind d q (kind d z.sort) → HasSort d q z.sort → IsWellSorted d (with_value s z q)
+  pub with_value_sorted : (s : Substitution) (z : Var) (q : Term) → IsWellSorted d s → HasKind d q (kind d z.sort) → HasSort d q z.sort → IsWellSorted d (with_value s z q)
   with_value_sorted s z q sorted h j = sorted_each d (with_value s z q) (λ x. chosen_stands d (occurs_or_not x (var z)) x.sort q (s x) (there x) (λ n. stands_at d s sorted x)) where
     there : (x : Var) → x ≡ z → StandsFor d x.sort q
     there x e = (
@@ -79,13 +79,13 @@ module _ (d : Declarations) (good : IsGood d) where
       go (a ∷ l) e = record { summand = a; rest = l; is = e }
 
     -- what another operator heads is one summand
-    one_part : (w : FlatTerm) (g : OpId) → head_of w ≡ Some g → same_op f g ≡ false → parts d f w ≡ w ∷ []
+    pub one_part : (w : FlatTerm) (g : OpId) → head_of w ≡ Some g → same_op f g ≡ false → parts d f w ≡ w ∷ []
     one_part (fvar x) g e n = cc
     one_part (fapp h true ts) g e n = let q : h ≡ g = cc in rw (ap (same_op f) q ∙ n) refl
     one_part (fapp h false fnone) g e n = rw no_identity refl
     one_part (fapp h false (fmore t ts)) g e n = refl
 
-    others_differ : (g : OpId) → (g ≡ f → ⊥) → same_op f g ≡ false
+    pub others_differ : (g : OpId) → (g ≡ f → ⊥) → same_op f g ≡ false
     others_differ g n = go (same_op f g) refl where
       go : (b : Bool) → same_op f g ≡ b → same_op f g ≡ false
       go true e = absurd (n (sym (same_op_is f g e)))
@@ -96,7 +96,7 @@ module _ (d : Declarations) (good : IsGood d) where
       own_keeps x i = refl
 
       -- the least sort of a form of the operator's kind is of that kind
-      of_the_kind : (t : FlatTerm) → Settled d t → HasKind d (plain t) k → IsOfKind d f (least_sort d t)
+      pub of_the_kind : (t : FlatTerm) → Settled d t → HasKind d (plain t) k → IsOfKind d f (least_sort d t)
       of_the_kind t h j = record { rank = r; listed = listed; kind_is = sort_in-kind d good (λ x. x.sort) own_keeps t h k j ∙ sym gives }
 
       module _ (s : SortId) (keep : SummandsKeep d f s) where

@@ -11,8 +11,11 @@ use Rattle.fvn_terms.specs.Equality.{IsAssociative, identity}
 use Rattle.fvn_terms.specs.Theory.{Equations}
 use Rattle.fvn_terms.specs.Rewriting.{IsReducible}
 use Rattle.fvn_forms.specs.Flat.{FlatTerm, fvar, funpack, plain}
+use Rattle.fvn_forms.specs.Canon.{build, inst}
 use Rattle.fvn_forms.specs.Ranks.{result}
 use Rattle.fvn_forms.specs.Good.{IsOfKind}
+use Rattle.fvn_theory.specs.Equations.{equations_of}
+use Rattle.fvn_flat.specs.Bindings.{value}
 use Rattle.fvn_flat.specs.Fits.{Fits}
 use Rattle.fvn_flat.specs.Forms.{head_of, args_of}
 use Rattle.fvn_flat.specs.FlatPlaces.{IsDivided, IsPartOfSum}
@@ -67,14 +70,48 @@ module _ (d : Declarations) where
     pub by_first : MeetsOne f first second
     pub by_second : MeetsOne f second first
 
-  -- Among the summands of the rule's left side are those of a needed rule's left side that is met by two, which may be
-  -- its own.
+  -- the sum of the form, with the sum of two variables in place of x, and of the first of them
+  abbrev pub parted_sum : OpId → FlatTerm → Var → Var → Var → FlatTerm
+  parted_sum f form x one rest =
+      build d f (inst d (value ((x, build d f (fvar one ∷ fvar rest ∷ [])) ∷ [])) form ∷ fvar one ∷ [])
+
+  -- Two new variables stand for a variable of the form: with their sum in its place, the sum of the form and of the
+  -- first of them is reducible.
+  pub record IsParted (equations : Equations) (f : OpId) (form : FlatTerm) (x : Var) : Type 0 where
+    pub one : Var
+    pub rest : Var
+    pub one_sort : one.sort ≡ x.sort
+    pub rest_sort : rest.sort ≡ x.sort
+    pub differ : one ≢ rest
+    pub one_new : Occurs one (plain form) → ⊥
+    pub rest_new : Occurs rest (plain form) → ⊥
+    pub reducible : IsReducible d equations (plain (parted_sum f form x one rest))
+
+  -- The form is a sum of a variable and of a form that another operator heads, by f without an identity: where the
+  -- variable's value is a sum, one summand of it is enough.
+  pub record IsMetBySome (equations : Equations) (f : OpId) (t : FlatTerm) : Type 0 where
+    pub variable : Var
+    pub form : FlatTerm
+    pub heads : head_of t ≡ Some f
+    pub are_two : args_of t ≡ fvar variable ∷ form ∷ []
+    pub associative : IsAssociative (axioms d f)
+    pub no_identity : identity (axioms d f) ≡ None
+    pub keep : SummandsKeep f variable.sort
+    pub alone : IsOneSummand f form
+    pub parted : IsParted equations f form variable
+
+  -- two summands are enough
+  abbrev pub IsMet : Equations → OpId → FlatTerm → Type 0
+  IsMet equations f t = IsMetByTwo f t ⊎ IsMetBySome equations f t
+
+  -- Among the summands of the rule's left side are those of a needed rule's left side for which two are enough; this may
+  -- be its own.
   pub record IsMetInPairs (lists : RuleLists) (rule : Rule) : Type 0 where
     pub operator : OpId
     pub heads : head_of rule.left ≡ Some operator
     pub inner : Rule
     pub needed : Contains (headed lists operator) inner
-    pub by_two : IsMetByTwo operator inner.left
+    pub met : IsMet (equations_of lists.equations) operator inner.left
     pub others : List FlatTerm
     pub among : IsDivided (args_of rule.left) (args_of inner.left) others
 

@@ -24,6 +24,7 @@ pub fn sums_step_in_pairs()
     ensures { SumsStepInPairs }
 {
     rewriting_is_lawful();
+    kinded_theories_are_lawful();
     rules_are_lawful();
 }
 

@@ -85,6 +85,13 @@ module _ (r : Rewriting) (good : IsGood r.signature) (usable : AreUsable r.signa
       let n = numbered f rule listed in
       (sides_of n.equation, contains_map sides_of r.rules.equations n.equation (item_in r.rules.equations n.before n.equation n.is), n.made)
 
+  -- the left side of a needed rule fits
+  pub needed_fits : (f : OpId) (rule : Rule) → Contains (headed r.rules f) rule → Fits d rule.left
+  needed_fits f rule listed =
+      let n = numbered f rule listed in
+      let sides = rules.kinds rule.left rule.right (is_rule f rule listed) in
+      record { flat = (rule_settled d (sides_of n.equation) rule.left rule.right n.made).0; kinded = (sides.kind, sides.left) }
+
   module _ (v : Variant) (terms : AllFit r.signature v.terms) (at : FlatTerm) (turn : Turn) (t : IsTurnAt r v at turn) where
     whole_fits : Fits d t.whole
     whole_fits = path_fits d good.fits turn.path t.term t.whole (fits_in v.terms t.term terms (item_in v.terms turn.member t.term t.is)) t.leads

@@ -14,6 +14,7 @@ mod Along
 mod Backwards
 mod Expanded
 mod Keeping
+mod Parted
 mod Divided
 mod Two
 mod Whole

@@ -21,27 +21,39 @@ use fvn_terms::{NoMemory, OpId};
 use std::alloc::Global;
 
 // Whether one of the rules is met in pairs.
-fn some_met<S: Solves>(tools: &Tools<'_, '_, S>, rules: &[Rule]) -> bool {
+fn some_met<S: Solves>(
+    tools: &Tools<'_, '_, S>,
+    alloc: Global,
+    rules: &[Rule],
+) -> Result<bool, NoMemory> {
     for rule in rules {
-        if is_met(tools, rule) {
-            return true;
+        let met = is_met(tools, alloc, rule)?;
+        if met {
+            return Ok(true);
         }
     }
-    false
+    Ok(false)
 }
 
 // Whether the form is a sum that is taken two summands at a time.
-fn is_divided<S: Solves>(tools: &Tools<'_, '_, S>, at: &Flat, f: OpId, rules: &[Rule]) -> bool
-    ensures { IsTrue result
-        → (IsAssociative (axioms tools.now.rewriter.now.signature f) × (2 < length (args_of at.now))) }
+fn is_divided<S: Solves>(
+    tools: &Tools<'_, '_, S>,
+    alloc: Global,
+    at: &Flat,
+    f: OpId,
+    rules: &[Rule],
+) -> Result<bool, NoMemory>
+    ensures { IfOk result (λ is. IsTrue is
+        → (IsAssociative (axioms tools.now.rewriter.now.signature f) × (2 < length (args_of at.now)))) }
 {
     if at.args().len() <= 2 {
-        return false;
+        return Ok(false);
     }
     if !tools.rewriter.signature().axioms(f).is_sum() {
-        return false;
+        return Ok(false);
     }
-    some_met(tools, rules)
+    let met = some_met(tools, alloc, rules)?;
+    Ok(met)
 }
 
 // The children at all pairs of summands, and at the whole sum by the rules that are not met in pairs.
@@ -102,7 +114,7 @@ pub(crate) fn at_form<S: Solves>(
         start.now.variant) (IsTryOf form.now.at.now (headed tools.now.rewriter.now.rules f)))) }
 {
     let rules = tools.rewriter.rules().headed(f);
-    let divided = is_divided(tools, form.at, f, rules);
+    let divided = is_divided(tools, alloc, form.at, f, rules)?;
     if divided {
         let parts = by_parts(tools, alloc, start, form, f)?;
         return Ok(parts);

@@ -13,6 +13,7 @@ use fvn_base::Seq;
 use fvn_cover::Variant;
 use fvn_exploring::{ExpandEnd, Expansion};
 use fvn_narrow_children::{Start, no_children};
+use fvn_rewrite_laws::rules_are_lawful;
 use fvn_rewrite_rules::Rule;
 use fvn_terms::NoMemory;
 use std::alloc::Global;
@@ -32,16 +33,21 @@ pub(crate) fn with_more(
 }
 
 // Whether the rule is met in pairs.
-pub(crate) fn is_met<S: Solves>(tools: &Tools<'_, '_, S>, rule: &Rule) -> bool
-    ensures { IsTrue result
-        → IsMetInPairs tools.now.rewriter.now.signature tools.now.rewriter.now.rules rule.now }
+pub(crate) fn is_met<S: Solves>(
+    tools: &Tools<'_, '_, S>,
+    alloc: Global,
+    rule: &Rule,
+) -> Result<bool, NoMemory>
+    ensures { IfOk result (λ is. IsTrue is
+        → IsMetInPairs tools.now.rewriter.now.signature tools.now.rewriter.now.rules rule.now) }
 {
     tools.rewriter.recall();
+    rules_are_lawful();
     let Some(f) = rule.left.head() else {
-        return false;
+        return Ok(false);
     };
-    let met = is_met_in_pairs(tools.rewriter.signature(), tools.rewriter.rules(), f, rule);
-    met
+    let met = is_met_in_pairs(alloc, tools.rewriter, f, rule)?;
+    Ok(met)
 }
 
 // The children at a part by a rule; none where rules that are met in pairs are passed over, and this is one.
@@ -62,7 +68,7 @@ fn by_rule_unless<S: Solves>(
         start.now.variant passes (try_of part.now.at.now rule.now))) }
 {
     if passes {
-        let met = is_met(tools, rule);
+        let met = is_met(tools, alloc, rule)?;
         if met {
             return Ok(no_children(alloc));
         }

@@ -1,17 +1,20 @@
 -- Forms among others, and rules within others.
-use Rattle.std.specs.Prelude.{◌≡◌, ℕ, List, [], ◌∷◌, All, Some, slice_get}
+use Rattle.std.specs.Prelude.{◌≡◌, ℕ, List, [], ◌∷◌, All, Contains, None, Some, slice_get}
+use Rattle.fvn_terms.specs.declared.plain.Var.{Var}
 use Rattle.fvn_terms.specs.declared.plain.OpId.{OpId}
 use Rattle.fvn_terms.specs.declared.plain.SortId.{SortId}
 use Rattle.fvn_terms.specs.declared.declarations.Rank.{Rank}
 use Rattle.fvn_terms.specs.declared.declarations.Declarations.{Declarations}
-use Rattle.fvn_terms.specs.Signature.{axioms, AtOrBelow}
-use Rattle.fvn_terms.specs.Equality.{IsAssociative}
-use Rattle.fvn_forms.specs.Flat.{FlatTerm}
+use Rattle.fvn_terms.specs.Term.{var}
+use Rattle.fvn_terms.specs.Theory.{Equations}
+use Rattle.fvn_terms.specs.Signature.{kind, declared, axioms, AtOrBelow, HasKind}
+use Rattle.fvn_terms.specs.Equality.{IsAssociative, identity}
+use Rattle.fvn_forms.specs.Flat.{FlatTerm, plain}
 use Rattle.fvn_flat.specs.Fits.{Fits}
 use Rattle.fvn_flat.specs.FlatPlaces.{IsDivided}
 use Rattle.fvn_flat.specs.Forms.{head_of, args_of}
 use Rattle.fvn_rewrite_rules.specs.declared.rule.Rule.{Rule}
-use Rattle.fvn_lifting.specs.Pairs.{IsMetByTwo}
+use Rattle.fvn_lifting.specs.Pairs.{IsOneSummand, SummandsKeep, IsMet}
 
 -- each argument of the rank has the sort, or one below it, where what it gives has
 abbrev pub RankKeeps : Declarations → SortId → Rank → Type 0
@@ -21,10 +24,31 @@ RankKeeps d s r = AtOrBelow d r.result s → All (λ q. AtOrBelow d q s) r.args
 abbrev pub AreAmong : List FlatTerm → List FlatTerm → Type 0
 AreAmong some all = (others : List FlatTerm) × IsDivided all some others
 
--- the left side of the first is met by two, and has its summands among those of the other
-pub record HasInner (d : Declarations) (f : OpId) (inner rule : Rule) : Type 0 where
-  pub by_two : IsMetByTwo d f inner.left
+-- two summands are enough for the left side of the first, and it has its summands among those of the other
+pub record HasInner (d : Declarations) (equations : Equations) (f : OpId) (inner rule : Rule) : Type 0 where
+  pub met : IsMet d equations f inner.left
   pub among : AreAmong (args_of inner.left) (args_of rule.left)
+
+-- an associative f has a sum of the variable and the form
+pub record AddsUp (d : Declarations) (f : OpId) (x : Var) (form : FlatTerm) : Type 0 where
+  pub associative : IsAssociative (axioms d f)
+  pub rank : Rank
+  pub listed : Contains (declared d f).ranks rank
+  pub variable : HasKind d (var x) (kind d rank.result)
+  pub fits : Fits d form
+  pub of_kind : HasKind d (plain form) (kind d rank.result)
+
+-- a variable whose sort the summands of f keep, f without an identity, and what another operator heads
+pub record IsBeside (d : Declarations) (f : OpId) (x : Var) (form : FlatTerm) : Type 0 where
+  pub associative : IsAssociative (axioms d f)
+  pub no_identity : identity (axioms d f) ≡ None
+  pub keep : SummandsKeep d f x.sort
+  pub alone : IsOneSummand d f form
+
+-- f heads the rule's left side, which fits
+pub record IsHeadedFit (d : Declarations) (f : OpId) (rule : Rule) : Type 0 where
+  pub heads : head_of rule.left ≡ Some f
+  pub fits : Fits d rule.left
 
 -- the form fits, and an associative f heads it
 pub record IsSum (d : Declarations) (f : OpId) (t : FlatTerm) : Type 0 where

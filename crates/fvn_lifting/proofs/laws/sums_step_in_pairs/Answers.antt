@@ -13,5 +13,5 @@ returns c = λ d equations lists used at fits f heads rule listed met s by meet.
     let admissible = subst (AreAdmissible d) (sym used.same) used.admissible in
     let kinded : HaveOneKind d (equations_of lists.equations) = λ equation is. (admissible equation is).kinded.kinds in
     subst (λ (e : Equations). IsReducibleInPart d e f at s) used.same
-    (sum_steps d used.good lists used.rules (c.rewriting_is_lawful.ensures d (equations_of lists.equations)) (c.rules_are_lawful.ensures d used.good used.completed (equations_of lists.equations) kinded)
+    (sum_steps d used.good lists used.rules (c.rewriting_is_lawful.ensures d (equations_of lists.equations)) (c.kinded_theories_are_lawful.ensures d used.good.fits (equations_of lists.equations) kinded) (c.rules_are_lawful.ensures d used.good used.completed (equations_of lists.equations) kinded)
     at fits f heads rule listed met s by meet)

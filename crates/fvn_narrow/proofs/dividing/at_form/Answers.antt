@@ -11,7 +11,7 @@ use Rattle.fvn_narrow.proofs.dividing.at_form.Goals as goal
 pub by_parts-requires : goal.by_parts-requires
 by_parts-requires g c = record {
   ready = c.requires.ready;
-  sum = let h = c.is_divided-divided.ensures c.if-divided.true in record { form = c.requires.form; associative = h.0; many = h.1 };
+  sum = let h = c.in_ok-divided.ensures c.if-divided.true in record { form = c.requires.form; associative = h.0; many = h.1 };
   whole = c.requires.whole;
 }
 

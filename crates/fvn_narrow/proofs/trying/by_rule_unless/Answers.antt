@@ -15,7 +15,7 @@ returns-then-met g c =
     let v = c.args.start.now.variant in
     let try = try_of c.args.part.now.at.now c.args.rule.now in
     nothing_found n.rewriter.now unifiers may v (TryLiftsUnless n.rewriter.now unifiers v c.args.passes try) c.no_children.result c.no_children.ensures.children c.no_children.ensures.end
-    (inr (c.if-passes.true, c.is_met-met.ensures c.if-met.true))
+    (inr (c.if-passes.true, c.in_ok-met.ensures c.if-met.true))
 
 pub returns : goal.returns
 returns g c =
