@@ -1,4 +1,4 @@
-//! Tests of the readers of terms, statements and problems, through the public calls of their crates.
+//! Tests of the readers of terms, statements, problems and modules, through the public calls of their crates.
 #![tactic(auto)]
 
 #[cfg(test)]

@@ -1,5 +1,8 @@
-//! Terms and names, statements, and problems, each rule with its edges.
+//! Tables of texts, each with what is read of it.
+mod answers;
+mod modules;
 mod problems;
+mod reading;
+mod rows;
 mod statements;
-mod terms;
 mod writing;
