@@ -23,6 +23,7 @@ use Rattle.fvn_match.specs.inner.Apart.{IsUntouched, values_with, ApartFits, Apa
 use Rattle.fvn_match.specs.declared.goals.Binding.{Binding}
 use Rattle.fvn_match.specs.declared.apart.Apart.{Apart}
 use Rattle.fvn_match.proofs.KnownSteps.{weight_of-append}
+use Rattle.fvn_match.proofs.Weights.{weight_of-first, weight_of-drop}
 use Rattle.fvn_match.proofs.PairingSteps.{zip-drop}
 use Rattle.fvn_match.proofs.Finding.{if_found_same}
 use Rattle.fvn_match.proofs.PairSteps.{rest_of, zip_parted, free_head, free_pairs, free_step}
@@ -86,21 +87,18 @@ module _ (d : Declarations) (b : Bindings) where
         IsTakenApart d b a after (λ c. inst d c (fvar x) ≡ t.now) 3
     bound_one a after t fits pair low free vs ps ts = record {
       fits = record {
-        values = subst (λ l. IsCandidate d (value l)) (sym w) (one_more_candidate d B x t.now pair fits.values low);
+        values = subst (λ l. IsCandidate d (value l)) (sym w) (one_more_candidate d (values_with d b a) x t.now pair fits.values low);
         pairs = subst (λ l. AllZip (IsPair d) (references l) (references after.targets.items)) (sym ps) (subst (λ l. AllZip (IsPair d) (references a.patterns.items) (references l)) (sym ts) fits.pairs);
       };
       asks = λ c k.
           subst (λ l. ((c x ≡ t.now) × ApartAsks d b a c) ↔ (Agrees l c × AllMake d (references after.patterns.items) (references after.targets.items) c)) (sym w)
-          (subst (λ l. ((c x ≡ t.now) × ApartAsks d b a c) ↔ (Agrees ((x, t.now) ∷ B) c × AllMake d (references l) (references after.targets.items) c)) (sym ps)
-          (subst (λ l. ((c x ≡ t.now) × ApartAsks d b a c) ↔ (Agrees ((x, t.now) ∷ B) c × AllMake d (references a.patterns.items) (references l) c)) (sym ts)
-          (λ h. (agrees_more d B x t.now pair c h.1.0 h.0, h.1.1), λ h. (agrees_here d B x t.now pair c h.0, (agrees_less d B x t.now pair c free h.0, h.1)))));
+          (subst (λ l. ((c x ≡ t.now) × ApartAsks d b a c) ↔ (Agrees ((x, t.now) ∷ values_with d b a) c × AllMake d (references l) (references after.targets.items) c)) (sym ps)
+          (subst (λ l. ((c x ≡ t.now) × ApartAsks d b a c) ↔ (Agrees ((x, t.now) ∷ values_with d b a) c × AllMake d (references a.patterns.items) (references l) c)) (sym ts)
+          (λ h. (agrees_more d (values_with d b a) x t.now pair c h.1.0 h.0, h.1.1), λ h. (agrees_here d (values_with d b a) x t.now pair c h.0, (agrees_less d (values_with d b a) x t.now pair c free h.0, h.1)))));
       lighter = let e = ap (λ l. weight_of (references l)) ps in omega arith;
     }
       where
-        B : Bindings
-        B = values_with d b a
-
-        w : with_bindings b after.values.items ≡ (x, t.now) ∷ B
+        w : with_bindings b after.values.items ≡ (x, t.now) ∷ values_with d b a
         w = ap (with_bindings b) vs ∙ with_bindings-push b a.values.items (record { name = x; value = t })
 
   -- a pair that is kept
@@ -110,11 +108,11 @@ module _ (d : Declarations) (b : Bindings) where
   kept_one a after p t fits pair vs ps ts = record {
     fits = record {
       values = subst (λ l. IsCandidate d (value (with_bindings b l))) (sym vs) fits.values;
-      pairs = (more (IsPair d)).1 (fits.pairs, (pair, tt));
+      pairs = (grown (IsPair d)).1 (fits.pairs, (pair, tt));
     };
     asks = λ c k.
         subst (λ l. ((inst d c p.now ≡ t.now) × ApartAsks d b a c) ↔ (Agrees (with_bindings b l) c × AllMake d (references after.patterns.items) (references after.targets.items) c)) (sym vs)
-        (λ h. (h.1.0, (more (λ q u. inst d c q ≡ u)).1 (h.1.1, (h.0, tt))), λ h. let z = (more (λ q u. inst d c q ≡ u)).0 h.1 in (z.1.0, (h.0, z.0)));
+        (λ h. (h.1.0, (grown (λ q u. inst d c q ≡ u)).1 (h.1.1, (h.0, tt))), λ h. let z = (grown (λ q u. inst d c q ≡ u)).0 h.1 in (z.1.0, (h.0, z.0)));
     lighter = let e = ap weight_of pushed in let f = weight_of-append (references a.patterns.items) (p.now ∷ []) in omega arith;
   }
     where
@@ -124,8 +122,8 @@ module _ (d : Declarations) (b : Bindings) where
       targets : references after.targets.items ≡ references a.targets.items ++ t.now ∷ []
       targets = ap references ts ∙ references-append a.targets.items (t ∷ [])
 
-      more : (R : FlatTerm → FlatTerm → Type 0) → AllZip R (references after.patterns.items) (references after.targets.items) ↔ (AllZip R (references a.patterns.items) (references a.targets.items) × AllZip R (p.now ∷ []) (t.now ∷ []))
-      more R =
+      grown : (R : FlatTerm → FlatTerm → Type 0) → AllZip R (references after.patterns.items) (references after.targets.items) ↔ (AllZip R (references a.patterns.items) (references a.targets.items) × AllZip R (p.now ∷ []) (t.now ∷ []))
+      grown R =
           subst (λ l. AllZip R l (references after.targets.items) ↔ (AllZip R (references a.patterns.items) (references a.targets.items) × AllZip R (p.now ∷ []) (t.now ∷ []))) (sym pushed)
           (subst (λ l. AllZip R (references a.patterns.items ++ p.now ∷ []) l ↔ (AllZip R (references a.patterns.items) (references a.targets.items) × AllZip R (p.now ∷ []) (t.now ∷ []))) (sym targets)
           (zip_both R (references a.patterns.items) (p.now ∷ []) (references a.targets.items) (t.now ∷ []) (zip_long (IsPair d) (references a.patterns.items) (references a.targets.items) fits.pairs)))
@@ -171,12 +169,7 @@ module _ (d : Declarations) (b : Bindings) where
       next_pair = ((parted (IsPair d)).0 left.pairs).0
 
       pub next_weight : weight p + 2 ≤ weight_of ps
-      next_weight = let e = weight_of-at ps i p within p_is in let f = weight_of_drop i ps in omega arith
-        where
-          weight_of_drop : (k : ℕ) (l : List FlatTerm) → weight_of (drop k l) ≤ weight_of l
-          weight_of_drop zero l = omega arith
-          weight_of_drop (suc k) [] = omega arith
-          weight_of_drop (suc k) (u ∷ l) = let a = weight_of_drop k l in omega arith
+      next_weight = let e = weight_of-at ps i p within p_is in let f = weight_of-drop i ps in omega arith
 
       pub left_refused : (after : Apart) → TakesApart d b now after (λ c. inst d c p ≡ t) (weight p + 2) false → (c : Values) → IsCandidate d c → AllMake d ps ts c → ApartAsks d b before c → ⊥
       left_refused after never c k h g = let w = (left.asks c k).0 (h, g) in never c k ((parted (λ q u. inst d c q ≡ u)).0 w.0).0 w.1
@@ -258,7 +251,7 @@ module _ (ps ts : List (Bor FlatTerm)) (p t : Bor FlatTerm) (some : 1 ≤ length
       (zip_parted R (references ps) (references ts) p.now t.now some_first (length_references ts ∙ sym long ∙ sym (length_references ps)) first_at target_at))
 
   pub refs_weight : weight p.now + 2 + weight_of (references (take (length ps - 1) (drop 1 ps))) ≡ weight_of (references ps)
-  refs_weight = let e = ap weight_of (tail_is ps) in let w = weight_of-at (references ps) 0 p.now some_first first_at in omega arith
+  refs_weight = let e = ap weight_of (tail_is ps) in let w = weight_of-first (references ps) p.now some_first first_at in omega arith
 
   pub found_refs : (d : Declarations) (b : Bindings) (vars : List Var) (X : Values → Type 0) → {E : Type 0} (r : Result (Option Bindings) E) →
       IfOk r (Finds vars (IsSolution d b (λ c. (inst d c p.now ≡ t.now) × (AllMake d (references (take (length ps - 1) (drop 1 ps))) (references (take (length ts - 1) (drop 1 ts))) c × X c)))) →

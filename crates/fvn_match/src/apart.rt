@@ -65,8 +65,8 @@ impl<'a> Apart<'a> {
     {
         match newest(self.values.as_slice(), x, bound.get(x)) {
             Some(v) => {
-                let same = v.same(t);
-                Ok(same)
+                let is = v.same(t);
+                Ok(is)
             }
             None => {
                 if !has_sort_of(sig, x, t) {
@@ -129,8 +129,8 @@ impl<'a> Apart<'a> {
         if !headed {
             return Ok(false);
         }
-        let can = self.take_all(sig, bound, p.args(), t.args())?;
-        Ok(can)
+        let all = self.take_all(sig, bound, p.args(), t.args())?;
+        Ok(all)
     }
 
     // Pairs place by place; false where no values make them.

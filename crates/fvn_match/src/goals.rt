@@ -47,9 +47,9 @@ pub(crate) struct Binding<'a> {
 }
 
 // The value that the pair gives the variable, or else the one from before.
-fn newer<'a>(pair: Binding<'a>, v: Var, before: Option<&'a Flat>) -> Option<&'a Flat>
-    ensures { (b : Bindings) → IsValue b v before →
-        IsValue ((pair.name, pair.value.now) ∷ b) v result }
+fn newer<'a>(pair: &Binding<'a>, v: Var, before: Option<&'a Flat>) -> Option<&'a Flat>
+    ensures { (b : Bindings) → IsValue b v before.entry →
+        IsValue ((pair.now.name, pair.now.value.now) ∷ b) v result }
 {
     if pair.name == v {
         return Some(pair.value);
@@ -63,11 +63,11 @@ pub(crate) fn newest<'a>(
     v: Var,
     before: Option<&'a Flat>,
 ) -> Option<&'a Flat>
-    ensures { (b : Bindings) → IsValue b v before → IsValue (with_bindings b pairs.now) v result }
+    ensures { (b : Bindings) → IsValue b v before.entry → IsValue (with_bindings b pairs.now) v result }
 {
     let mut found = before;
     for pair in pairs {
-        found = newer(*pair, v, found);
+        found = newer(pair, v, found);
     }
     found
 }

@@ -36,13 +36,13 @@ take-take_all-requires t c =
     (c.is_headed-headed.ensures.0 c.if-not-headed.false) c.args-2.result.now c.args-3.result.now c.args-2.ensures.exact c.args-3.ensures.exact in
     (omega (arith, w, v), (zip_long (IsPair d) c.args-2.result.now c.args-3.result.now pairs, (pairs, c.requires.fits)))
 
-pub take-returns-in_ok-can : goal.take-returns-in_ok-can
-take-returns-in_ok-can t c =
+pub take-returns-in_ok-all : goal.take-returns-in_ok-all
+take-returns-in_ok-all t c =
     let w = weight_args c.args.p.now c.in-Some-head.f (sym c.in-Some-head.ensures) in
     let v = ap weight_of c.args-2.ensures.exact in
     taken_by_args c.args.sig.now (bindings_of c.args.bound.now) c.recall_good.ensures.fits c.in-Some-head.f c.args.p.now c.args.t.now c.requires.pair (sym c.in-Some-head.ensures) (c.is_free-free.ensures c.if-not-free.false)
     (c.is_headed-headed.ensures.0 c.if-not-headed.false) c.args-2.result.now c.args-3.result.now c.args-2.ensures.exact c.args-3.ensures.exact
-    c.args.self.now c.take_all.new.self (weight c.args.p.now + 2) (omega (arith, w, v)) c.in_ok-can.can c.in_ok-can.ensures
+    c.args.self.now c.take_all.new.self (weight c.args.p.now + 2) (omega (arith, w, v)) c.in_ok-all.all c.in_ok-all.ensures
 
 pub take_all-loop-i-init : goal.take_all-loop-i-init
 take_all-loop-i-init t c = all_left c.args.sig.now (bindings_of c.args.bound.now) c.args.self.now c.requires.fits c.args.ps.now c.args.ts.now c.requires.pairs

@@ -10,7 +10,7 @@ pub returns-in-Some : goal.returns-in-Some
 returns-in-Some c =
     let b = bindings_of c.args.bound.now in
     compared c.args.sig.now b c.args.x c.args.self.now c.requires.fits c.args.t.now c.in-Some.v.now
-    (subst (λ l. bound (with_bindings b l) c.args.x ≡ Some c.in-Some.v.now) c.as_slice.ensures.value (c.in-Some.ensures b c.get.ensures)) c.same.result c.same.ensures.exact
+    (subst (λ l. bound (with_bindings b l) c.args.x ≡ Some c.in-Some.v.now) c.as_slice.ensures.value (c.in-Some.ensures b c.get.ensures)) c.same-is.result c.same-is.ensures.exact
 
 pub returns-then-not-has_sort_of : goal.returns-then-not-has_sort_of
 returns-then-not-has_sort_of c = λ v k is asked.
