@@ -27,7 +27,7 @@ use Rattle.fvn_match.proofs.SumFinding.{IsTried, no_patterns, group_of, group_wi
 use Rattle.fvn_match.proofs.ChoiceFinding.{refused_whole, whole_pair, left_fits, found_whole}
 use Rattle.fvn_match.proofs.SummedFinding.{found_summed}
 use Rattle.fvn_match.proofs.WholeSteps.{not_zero}
-use Rattle.fvn_match.proofs.Weights.{weight_args, weight_of-reverse, weight_of-first, weight_of-group}
+use Rattle.fvn_match.proofs.Weights.{weight_args, weight_of-reverse, weight_of-group}
 use Rattle.fvn_match.proofs.search.Search.+search.Goals as goal
 
 -- goals and sums, from the first on
