@@ -1,5 +1,6 @@
 //! The goals of a search for a matcher, and the values that were bound so far.
-ghost use Rattle.std.specs.Prelude.{◌∷◌};
+ghost use Rattle.std.specs.Prelude.{◌≡◌, ◌∷◌};
+ghost use Rattle.fvn_terms.specs.Substitution.{same_var};
 ghost use Rattle.fvn_flat.specs.Bindings.{Bindings};
 ghost use Rattle.fvn_match.specs.inner.Goals.{bindings_of, with_bindings, IsValue};
 
@@ -46,12 +47,23 @@ pub(crate) struct Binding<'a> {
     pub(crate) value: &'a Flat,
 }
 
+// Whether the pair is of the variable.
+fn is_named(pair: &Binding<'_>, v: Var) -> bool
+    ensures { result ≡ same_var pair.now.name v }
+{
+    if pair.name == v {
+        return true;
+    }
+    false
+}
+
 // The value that the pair gives the variable, or else the one from before.
 fn newer<'a>(pair: &Binding<'a>, v: Var, before: Option<&'a Flat>) -> Option<&'a Flat>
     ensures { (b : Bindings) → IsValue b v before.entry →
         IsValue ((pair.now.name, pair.now.value.now) ∷ b) v result }
 {
-    if pair.name == v {
+    let is = is_named(pair, v);
+    if is {
         return Some(pair.value);
     }
     before

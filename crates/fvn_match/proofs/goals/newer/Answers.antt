@@ -5,9 +5,9 @@ use Rattle.fvn_forms.specs.Flat.{FlatTerm}
 use Rattle.fvn_flat.specs.Bindings.{bound}
 use Rattle.fvn_match.proofs.goals.newer.Goals as goal
 
-pub returns-then-eq : goal.returns-then-eq
-returns-then-eq c = λ b h. ap (λ (z : Bool). if z then Some c.args.pair.now.value.now else bound b c.args.v) (sym c.eq.ensures ∙ c.if-eq.true)
+pub returns-then-is : goal.returns-then-is
+returns-then-is c = λ b h. ap (λ (z : Bool). if z then Some c.args.pair.now.value.now else bound b c.args.v) (sym c.is_named-is.ensures ∙ c.if-is.true)
 
 pub returns : goal.returns
 returns c = λ b h.
-    subst (λ (o : Option FlatTerm). MatchOption c.args.before (o ≡ None) (λ t. o ≡ Some t.now)) (sym (ap (λ (z : Bool). if z then Some c.args.pair.now.value.now else bound b c.args.v) (sym c.eq.ensures ∙ c.if-eq.false))) h
+    subst (λ (o : Option FlatTerm). MatchOption c.args.before (o ≡ None) (λ t. o ≡ Some t.now)) (sym (ap (λ (z : Bool). if z then Some c.args.pair.now.value.now else bound b c.args.v) (sym c.is_named-is.ensures ∙ c.if-is.false))) h

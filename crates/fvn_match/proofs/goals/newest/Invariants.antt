@@ -5,4 +5,4 @@ use Rattle.fvn_match.specs.inner.Goals.{with_bindings, IsValue}
 use Rattle.fvn_match.proofs.goals.newest.Given as goal
 
 abbrev pub invariant-loop-pair : goal.invariant-loop-pair
-invariant-loop-pair l = (b : Bindings) → IsValue b l.v l.before → IsValue (with_bindings b (take l.pair-index l.pair-items)) l.v l.found
+invariant-loop-pair l = (b : Bindings) → IsValue b l.v l.before → IsValue (with_bindings b (take l.pair-index l.pairs)) l.v l.found

@@ -13,10 +13,10 @@ use Rattle.fvn_match.proofs.apart.Apart.+apart.Goals as goal
 pub take-variable-requires-clause-pair : goal.take-variable-requires-clause-pair
 take-variable-requires-clause-pair t c = subst (λ u. IsPair c.args.sig.now u c.args.t.now) (variable_is c.args.p.now c.in-Some.x (sym c.in-Some.ensures)) c.requires.pair
 
-pub take-returns-in_ok-can-in-Some : goal.take-returns-in_ok-can-in-Some
-take-returns-in_ok-can-in-Some t c =
+pub take-returns-in-Some : goal.take-returns-in-Some
+take-returns-in-Some t c =
     let d = c.args.sig.now in
-    subst (λ u. TakesApart d (bindings_of c.args.bound.now) c.args.self.now c.variable.new.self (λ v. inst d v u ≡ c.args.t.now) (weight u + 2) c.in_ok-can-in-Some.can) (sym (variable_is c.args.p.now c.in-Some.x (sym c.in-Some.ensures))) c.in_ok-can-in-Some.ensures
+    subst (λ u. TakesApart d (bindings_of c.args.bound.now) c.args.self.now c.variable.new.self (λ v. inst d v u ≡ c.args.t.now) (weight u + 2) c.in_ok-can.can) (sym (variable_is c.args.p.now c.in-Some.x (sym c.in-Some.ensures))) c.in_ok-can.ensures
 
 pub take-returns-in-None : goal.take-returns-in-None
 take-returns-in-None t c = absurd (variable_or_head c.args.p.now (sym c.in_default.ensures) (sym c.in-None.ensures))
@@ -36,8 +36,8 @@ take-take_all-requires t c =
     (c.is_headed-headed.ensures.0 c.if-not-headed.false) c.args-2.result.now c.args-3.result.now c.args-2.ensures.exact c.args-3.ensures.exact in
     (omega (arith, w, v), (zip_long (IsPair d) c.args-2.result.now c.args-3.result.now pairs, (pairs, c.requires.fits)))
 
-pub take-returns-in_ok-all : goal.take-returns-in_ok-all
-take-returns-in_ok-all t c =
+pub take-returns : goal.take-returns
+take-returns t c =
     let w = weight_args c.args.p.now c.in-Some-head.f (sym c.in-Some-head.ensures) in
     let v = ap weight_of c.args-2.ensures.exact in
     taken_by_args c.args.sig.now (bindings_of c.args.bound.now) c.recall_good.ensures.fits c.in-Some-head.f c.args.p.now c.args.t.now c.requires.pair (sym c.in-Some-head.ensures) (c.is_free-free.ensures c.if-not-free.false)
