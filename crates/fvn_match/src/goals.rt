@@ -7,6 +7,13 @@ ghost use Rattle.fvn_match.specs.inner.Goals.{bindings_of, with_bindings, IsValu
 use fvn_flat::Flat;
 use fvn_terms::{OpId, Var};
 
+// Patterns and their targets, place by place.
+#[derive(Clone, Copy)]
+pub(crate) struct RefPairs<'a> {
+    pub(crate) patterns: &'a [&'a Flat],
+    pub(crate) targets: &'a [&'a Flat],
+}
+
 // Pairs of a pattern and its target, which come one after another.
 #[derive(Drop)]
 pub(crate) enum Goals<'a> {
@@ -15,7 +22,7 @@ pub(crate) enum Goals<'a> {
     // Patterns and their targets, place by place.
     Lists(&'a [Flat], &'a [Flat], &'a Goals<'a>),
     // The same of references.
-    Refs(&'a [&'a Flat], &'a [&'a Flat], &'a Goals<'a>),
+    Refs(RefPairs<'a>, &'a Goals<'a>),
     // A pattern and its target.
     Pair(&'a Flat, &'a Flat, &'a Goals<'a>),
 }
@@ -94,6 +101,12 @@ fn has_name(pairs: &[Binding<'_>], v: Var) -> bool {
     false
 }
 
+// Variables with their values, the newest last.
+#[derive(Clone, Copy)]
+pub(crate) struct Values<'a> {
+    pub(crate) pairs: &'a [Binding<'a>],
+}
+
 // Values of variables, the newest first.
 #[derive(Drop)]
 pub(crate) enum Bound<'a> {
@@ -102,7 +115,7 @@ pub(crate) enum Bound<'a> {
     // A variable with its value, and others.
     Bind(Var, &'a Flat, &'a Bound<'a>),
     // Variables with their values, the last of which is the newest, and others.
-    Several(&'a [Binding<'a>], &'a Bound<'a>),
+    Several(Values<'a>, &'a Bound<'a>),
 }
 
 impl Bound<'_> {
@@ -111,7 +124,7 @@ impl Bound<'_> {
         match self {
             Bound::Nothing => 0,
             Bound::Bind(_, _, rest) => rest.count().saturating_add(1),
-            Bound::Several(pairs, rest) => rest.count().saturating_add(pairs.len()),
+            Bound::Several(values, rest) => rest.count().saturating_add(values.pairs.len()),
         }
     }
 
@@ -128,11 +141,11 @@ impl Bound<'_> {
                 }
                 rest.is_new(v, newest - 1)
             }
-            Bound::Several(pairs, rest) => {
-                if has_name(*pairs, v) {
+            Bound::Several(values, rest) => {
+                if has_name(values.pairs, v) {
                     return true;
                 }
-                rest.is_new(v, newest.saturating_sub(pairs.len()))
+                rest.is_new(v, newest.saturating_sub(values.pairs.len()))
             }
         }
     }
@@ -149,9 +162,9 @@ impl Bound<'_> {
                 }
                 rest.get(v)
             }
-            Bound::Several(pairs, rest) => {
+            Bound::Several(values, rest) => {
                 let before = rest.get(v);
-                newest(*pairs, v, before)
+                newest(values.pairs, v, before)
             }
         }
     }

@@ -35,7 +35,7 @@ IsValue b x found = MatchOption found (bound b x ≡ None) (λ t. bound b x ≡ 
 abbrev pub bindings_of : Bound → Bindings
 bindings_of Nothing = []
 bindings_of (Bind' x t p rest) = (x, t.now) ∷ bindings_of rest
-bindings_of (Several' ps r rest) = with_bindings (bindings_of rest) ps.now
+bindings_of (Several' values r rest) = with_bindings (bindings_of rest) values.pairs.now
 
 -- the patterns of a sum
 abbrev pub patterns_of : SumGoal → List FlatTerm
@@ -63,7 +63,7 @@ module _ (d : Declarations) where
   abbrev pub Asked : Goals → Sums → Values → Type 0
   Asked Done sums c = SumsHold sums c
   Asked (Lists' ps ts r rest) sums c = AllMake ps.now ts.now c × Asked rest sums c
-  Asked (Refs' ps ts r rest) sums c = AllMake (references ps.now) (references ts.now) c × Asked rest sums c
+  Asked (Refs' pairs r rest) sums c = AllMake (references pairs.patterns.now) (references pairs.targets.now) c × Asked rest sums c
   Asked (Pair' p t r rest) sums c = (inst d c p.now ≡ t.now) × Asked rest sums c
 
   -- what k copies of a pattern ask that are to be this choice of the pieces of a sum, and the other patterns, and then sums
@@ -83,7 +83,7 @@ module _ (d : Declarations) where
   abbrev pub GoalsFit : Goals → Type 0
   GoalsFit Done = Unit {0}
   GoalsFit (Lists' ps ts r rest) = AllZip IsPair ps.now ts.now × GoalsFit rest
-  GoalsFit (Refs' ps ts r rest) = AllZip IsPair (references ps.now) (references ts.now) × GoalsFit rest
+  GoalsFit (Refs' pairs r rest) = AllZip IsPair (references pairs.patterns.now) (references pairs.targets.now) × GoalsFit rest
   GoalsFit (Pair' p t r rest) = IsPair p.now t.now × GoalsFit rest
 
   -- a flat form of the kind
@@ -134,7 +134,7 @@ weight_of (t ∷ ts) = weight t + 2 + weight_of ts
 abbrev pub goals_weight : Goals → ℕ
 goals_weight Done = 0
 goals_weight (Lists' ps ts r rest) = weight_of ps.now + 1 + goals_weight rest
-goals_weight (Refs' ps ts r rest) = weight_of (references ps.now) + 1 + goals_weight rest
+goals_weight (Refs' pairs r rest) = weight_of (references pairs.patterns.now) + 1 + goals_weight rest
 goals_weight (Pair' p t r rest) = weight p.now + 1 + goals_weight rest
 
 -- that of a sum

@@ -1,5 +1,5 @@
 -- A pair is bound, kept, refused or taken apart; one pair of two lists more.
-use Rattle.std.proofs.Common.{◌≡◌, false, refl, sym, ap, ◌∙◌, subst, arith}
+use Rattle.std.proofs.Common.{◌≡◌, ◌+◌, sym, ap, ◌∙◌, subst, arith}
 use Rattle.std.proofs.lemmas.Bool.{false≢true}
 use Rattle.fvn_forms.specs.Canon.{inst}
 use Rattle.fvn_match.specs.inner.Goals.{bindings_of, IsPair, weight, weight_of}

@@ -50,9 +50,9 @@ solve-returns-in-Lists t c = subst (λ g. IfOk c.lists.result (SearchesGoals c.a
 pub solve-refs-requires : goal.solve-refs-requires
 solve-refs-requires t c =
     let fits = subst (GoalsFit c.args.self.now.sig.now) c.in-Refs.is c.requires.state.pairs in
-    let long = zip_long (IsPair c.args.self.now.sig.now) (references c.in-Refs.ps.now) (references c.in-Refs.ts.now) fits.0 in
-    let ps = length_references c.in-Refs.ps.now in
-    let ts = length_references c.in-Refs.ts.now in
+    let long = zip_long (IsPair c.args.self.now.sig.now) (references c.in-Refs.pairs.patterns.now) (references c.in-Refs.pairs.targets.now) fits.0 in
+    let ps = length_references c.in-Refs.pairs.patterns.now in
+    let ts = length_references c.in-Refs.pairs.targets.now in
     (omega (arith, ap goals_weight c.in-Refs.is), (c.requires.vars, (sym ps ∙ long ∙ ts, (fits.0, record { pairs = fits.1; sums = c.requires.state.sums; values = c.requires.state.values }))))
 
 pub solve-returns-in-Refs : goal.solve-returns-in-Refs
