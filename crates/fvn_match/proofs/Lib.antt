@@ -23,3 +23,4 @@ mod Rooms
 mod Matchers
 mod TwoLists
 mod KeptHeads
+mod TakingApart

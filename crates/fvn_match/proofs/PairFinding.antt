@@ -62,21 +62,21 @@ module _ (d : Declarations) where
         sorts y i true e = subst (λ v. AtOrBelow d (least_sort d t) v.sort) (same_var_is x y e) low
         sorts y i false e = h.sorts y i
 
-    agrees_more : (c : Values) → Agrees b c → c x ≡ t → Agrees ((x, t) ∷ b) c
+    pub agrees_more : (c : Values) → Agrees b c → c x ≡ t → Agrees ((x, t) ∷ b) c
     agrees_more c a is y u q = go (same_var x y) refl q
       where
         go : (z : Bool) → same_var x y ≡ z → (if z then Some t else bound b y) ≡ Some u → c y ≡ u
         go true e q = ap c (sym (same_var_is x y e)) ∙ is ∙ (let w : t ≡ u = cc in w)
         go false e q = a y u q
 
-    agrees_less : (c : Values) → bound b x ≡ None → Agrees ((x, t) ∷ b) c → Agrees b c
+    pub agrees_less : (c : Values) → bound b x ≡ None → Agrees ((x, t) ∷ b) c → Agrees b c
     agrees_less c free a y u q = go (same_var x y) refl (a y u)
       where
         go : (z : Bool) → same_var x y ≡ z → ((if z then Some t else bound b y) ≡ Some u → c y ≡ u) → c y ≡ u
         go true e k = let w : bound b x ≡ Some u = ap (bound b) (same_var_is x y e) ∙ q in cc
         go false e k = k q
 
-    agrees_here : (c : Values) → Agrees ((x, t) ∷ b) c → c x ≡ t
+    pub agrees_here : (c : Values) → Agrees ((x, t) ∷ b) c → c x ≡ t
     agrees_here c a = a x t (ap (λ z. if z then Some t else bound b x) (same_var_itself x))
 
     module _ (vars : List Var) (P : Values → Type 0) where

@@ -28,7 +28,7 @@ pub weight_of-first : (l : List FlatTerm) (t : FlatTerm) → 1 ≤ length l → 
 weight_of-first [] t some e = absurd (omega arith)
 weight_of-first (u ∷ l) t some e = ap (λ v. weight v + 2 + weight_of l) e
 
-weight_of-drop : (k : ℕ) (l : List FlatTerm) → weight_of (drop k l) ≤ weight_of l
+pub weight_of-drop : (k : ℕ) (l : List FlatTerm) → weight_of (drop k l) ≤ weight_of l
 weight_of-drop zero l = omega arith
 weight_of-drop (suc k) [] = omega arith
 weight_of-drop (suc k) (t ∷ l) = let a = weight_of-drop k l in omega arith

@@ -9,3 +9,4 @@ pub mod Goals
 pub mod Known
 pub mod Searching
 pub mod Heads
+pub mod Apart

@@ -1,10 +1,18 @@
 //! The goals of a search for a matcher, and the values that were bound so far.
-ghost use Rattle.std.specs.Prelude.{◌≡◌, Some, None, MatchOption};
-ghost use Rattle.fvn_flat.specs.Bindings.{bound};
-ghost use Rattle.fvn_match.specs.inner.Goals.{bindings_of};
+ghost use Rattle.std.specs.Prelude.{◌≡◌, ◌∷◌};
+ghost use Rattle.fvn_terms.specs.Substitution.{same_var};
+ghost use Rattle.fvn_flat.specs.Bindings.{Bindings};
+ghost use Rattle.fvn_match.specs.inner.Goals.{bindings_of, with_bindings, IsValue};
 
 use fvn_flat::Flat;
 use fvn_terms::{OpId, Var};
+
+// Patterns and their targets, place by place.
+#[derive(Clone, Copy)]
+pub(crate) struct RefPairs<'a> {
+    pub(crate) patterns: &'a [&'a Flat],
+    pub(crate) targets: &'a [&'a Flat],
+}
 
 // Pairs of a pattern and its target, which come one after another.
 #[derive(Drop)]
@@ -13,6 +21,8 @@ pub(crate) enum Goals<'a> {
     Done,
     // Patterns and their targets, place by place.
     Lists(&'a [Flat], &'a [Flat], &'a Goals<'a>),
+    // The same of references.
+    Refs(RefPairs<'a>, &'a Goals<'a>),
     // A pattern and its target.
     Pair(&'a Flat, &'a Flat, &'a Goals<'a>),
 }
@@ -37,6 +47,66 @@ pub(crate) enum Sums<'a> {
     WithSum(SumGoal<'a>, &'a Sums<'a>),
 }
 
+// A variable with its value.
+#[derive(Clone, Copy)]
+pub(crate) struct Binding<'a> {
+    pub(crate) name: Var,
+    pub(crate) value: &'a Flat,
+}
+
+// Whether the pair is of the variable.
+fn is_named(pair: &Binding<'_>, v: Var) -> bool
+    ensures { result ≡ same_var pair.now.name v }
+{
+    if pair.name == v {
+        return true;
+    }
+    false
+}
+
+// The value that the pair gives the variable, or else the one from before.
+fn newer<'a>(pair: &Binding<'a>, v: Var, before: Option<&'a Flat>) -> Option<&'a Flat>
+    ensures { (b : Bindings) → IsValue b v before.entry →
+        IsValue ((pair.now.name, pair.now.value.now) ∷ b) v result }
+{
+    let is = is_named(pair, v);
+    if is {
+        return Some(pair.value);
+    }
+    before
+}
+
+// The value that the last of the pairs gives the variable, or else the one from before.
+pub(crate) fn newest<'a>(
+    pairs: &[Binding<'a>],
+    v: Var,
+    before: Option<&'a Flat>,
+) -> Option<&'a Flat>
+    ensures { (b : Bindings) → IsValue b v before.entry → IsValue (with_bindings b pairs.now) v result }
+{
+    let mut found = before;
+    for pair in pairs {
+        found = newer(pair, v, found);
+    }
+    found
+}
+
+// Whether one of the pairs is of the variable.
+fn has_name(pairs: &[Binding<'_>], v: Var) -> bool {
+    for pair in pairs {
+        if pair.name == v {
+            return true;
+        }
+    }
+    false
+}
+
+// Variables with their values, the newest last.
+#[derive(Clone, Copy)]
+pub(crate) struct Values<'a> {
+    pub(crate) pairs: &'a [Binding<'a>],
+}
+
 // Values of variables, the newest first.
 #[derive(Drop)]
 pub(crate) enum Bound<'a> {
@@ -44,6 +114,8 @@ pub(crate) enum Bound<'a> {
     Nothing,
     // A variable with its value, and others.
     Bind(Var, &'a Flat, &'a Bound<'a>),
+    // Variables with their values, the last of which is the newest, and others.
+    Several(Values<'a>, &'a Bound<'a>),
 }
 
 impl Bound<'_> {
@@ -52,6 +124,7 @@ impl Bound<'_> {
         match self {
             Bound::Nothing => 0,
             Bound::Bind(_, _, rest) => rest.count().saturating_add(1),
+            Bound::Several(values, rest) => rest.count().saturating_add(values.pairs.len()),
         }
     }
 
@@ -68,13 +141,18 @@ impl Bound<'_> {
                 }
                 rest.is_new(v, newest - 1)
             }
+            Bound::Several(values, rest) => {
+                if has_name(values.pairs, v) {
+                    return true;
+                }
+                rest.is_new(v, newest.saturating_sub(values.pairs.len()))
+            }
         }
     }
 
     // What the variable is bound to.
     pub(crate) fn get(&self, v: Var) -> Option<&Flat>
-        ensures { MatchOption result (bound (bindings_of self.now) v ≡ None) (λ t. bound
-            (bindings_of self.now) v ≡ Some t.now) }
+        ensures { IsValue (bindings_of self.now) v result }
     {
         match self {
             Bound::Nothing => None,
@@ -83,6 +161,10 @@ impl Bound<'_> {
                     return Some(&**t);
                 }
                 rest.get(v)
+            }
+            Bound::Several(values, rest) => {
+                let before = rest.get(v);
+                newest(values.pairs, v, before)
             }
         }
     }

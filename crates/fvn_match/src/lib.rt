@@ -2,6 +2,7 @@
 #![tactic(auto)]
 
 mod answers;
+mod apart;
 mod choices;
 mod goals;
 mod heads;

@@ -7,6 +7,7 @@ ghost use Rattle.fvn_forms.specs.Flat.{fvar};
 ghost use Rattle.fvn_flat.specs.Forms.{head_of};
 ghost use Rattle.fvn_match.specs.inner.Choices.{quotients};
 ghost use Rattle.fvn_match.specs.inner.Variables.{AreOnce};
+ghost use Rattle.fvn_match.specs.inner.Summands.{references};
 ghost use Rattle.fvn_match.specs.inner.Goals.{IsPair, StateFits};
 ghost use Rattle.fvn_match.specs.inner.Searching.{
   IsCrossing,
@@ -22,8 +23,9 @@ ghost use Rattle.fvn_match.specs.inner.Searching.{
 };
 
 use crate::answers::answer;
+use crate::apart::untouched;
 use crate::choices::{advanced, quotients, reduced, zeros};
-use crate::goals::{Bound, Goals, SumGoal, Sums};
+use crate::goals::{Bound, Goals, RefPairs, SumGoal, Sums, Values};
 use crate::known::{has_known, without_known};
 use crate::pairing::{has_sort_of, is_sorted_above};
 use crate::summands::{after, alike, count_pieces, is_headed, reversed, summands};
@@ -57,6 +59,9 @@ impl Search<'_> {
         match goals {
             Goals::Pair(p, t, rest) => self.pair(&**p, &**t, &**rest, &*sums, &*bound),
             Goals::Lists(ps, ts, rest) => self.lists(*ps, *ts, &**rest, &*sums, &*bound),
+            Goals::Refs(pairs, rest) => {
+                self.refs(pairs.patterns, pairs.targets, &**rest, &*sums, &*bound)
+            }
             Goals::Done => match sums {
                 Sums::WithSum(goal, rest) => self.sum(&*goal, &**rest, &*bound),
                 Sums::NoSum => {
@@ -67,15 +72,15 @@ impl Search<'_> {
         }
     }
 
-    // The pairs of two lists, then other goals.
+    // The pairs of two lists, taken apart as far as there is nothing to choose, then other goals.
     #[cycle(search)]
-    fn lists(
+    fn lists<'x>(
         &self,
-        ps: &[Flat],
-        ts: &[Flat],
+        ps: &'x [Flat],
+        ts: &'x [Flat],
         rest: &Goals<'_>,
         sums: &Sums<'_>,
-        bound: &Bound<'_>,
+        bound: &'x Bound<'x>,
     ) -> Result<Option<Subst>, NoMemory>
         requires vars { AreOnce self.now.vars.now }
         requires lengths { length ps.now ≡ length ts.now }
@@ -83,11 +88,46 @@ impl Search<'_> {
         requires state { StateFits self.now.sig.now rest.now sums.now bound.now }
         ensures { IfOk result (SearchesLists self.now ps.now ts.now rest.now sums.now bound.now) }
     {
+        let mut parts = untouched(self.alloc);
+        let can = parts.take_all(self.sig, &*bound, &*ps, &*ts)?;
+        if !can {
+            return Ok(None);
+        }
+        let patterns = parts.patterns.as_slice();
+        let targets = parts.targets.as_slice();
+        let values = Values {
+            pairs: parts.values.as_slice(),
+        };
+        let more = Bound::Several(values, &*bound);
+        self.refs(patterns, targets, &*rest, &*sums, &more)
+    }
+
+    // The same of references, pair by pair.
+    #[cycle(search)]
+    fn refs<'x>(
+        &self,
+        ps: &'x [&'x Flat],
+        ts: &'x [&'x Flat],
+        rest: &'x Goals<'x>,
+        sums: &Sums<'_>,
+        bound: &Bound<'_>,
+    ) -> Result<Option<Subst>, NoMemory>
+        requires vars { AreOnce self.now.vars.now }
+        requires lengths { length ps.now ≡ length ts.now }
+        requires pairs { AllZip (IsPair self.now.sig.now) (references ps.now) (references ts.now) }
+        requires state { StateFits self.now.sig.now rest.now sums.now bound.now }
+        ensures { IfOk result (SearchesLists self.now (references ps.now) (references ts.now) rest.now
+            sums.now bound.now) }
+    {
         if ps.is_empty() {
             return self.solve(&*rest, &*sums, &*bound);
         }
-        let later = Goals::Lists(&ps[1..], &ts[1..], &*rest);
-        self.pair(&ps[0], &ts[0], &later, &*sums, &*bound)
+        let others = RefPairs {
+            patterns: &ps[1..],
+            targets: &ts[1..],
+        };
+        let later = Goals::Refs(others, &*rest);
+        self.pair(ps[0], ts[0], &later, &*sums, &*bound)
     }
 
     // One pair, then other goals.
@@ -128,13 +168,13 @@ impl Search<'_> {
 
     // The value of a variable, then other goals.
     #[cycle(search)]
-    fn variable(
+    fn variable<'x>(
         &self,
         x: Var,
-        t: &Flat,
+        t: &'x Flat,
         rest: &Goals<'_>,
         sums: &Sums<'_>,
-        bound: &Bound<'_>,
+        bound: &'x Bound<'x>,
     ) -> Result<Option<Subst>, NoMemory>
         requires vars { AreOnce self.now.vars.now }
         requires pair { IsPair self.now.sig.now (fvar x) t.now }
@@ -160,11 +200,11 @@ impl Search<'_> {
 
     // Two pairs place by place, or else crosswise, then other goals.
     #[cycle(search)]
-    fn either(
+    fn either<'x>(
         &self,
-        ps: &[Flat],
-        ts: &[Flat],
-        rest: &Goals<'_>,
+        ps: &'x [Flat],
+        ts: &'x [Flat],
+        rest: &'x Goals<'x>,
         sums: &Sums<'_>,
         bound: &Bound<'_>,
     ) -> Result<Option<Subst>, NoMemory>

@@ -1,6 +1,8 @@
 -- The goals of a search, and what they ask.
-use Rattle.std.specs.Prelude.{◌≡◌, ◌<◌, ◌^◌, ℕ, ◌+◌, List, [], ◌∷◌, length, map, sum as std_sum, drop, Contains}
+use denote.Ref.{Bor}
+use Rattle.std.specs.Prelude.{◌≡◌, ◌<◌, ◌^◌, ℕ, ◌+◌, List, [], ◌∷◌, length, map, sum as std_sum, drop, Contains, Option, Some, None, MatchOption}
 use Rattle.std.specs.List.{AllZip, AllByRecursion}
+use Rattle.fvn_terms.specs.declared.plain.Var.{Var}
 use Rattle.fvn_terms.specs.declared.plain.SortId.{SortId}
 use Rattle.fvn_terms.specs.declared.declarations.Rank.{Rank}
 use Rattle.fvn_terms.specs.declared.declarations.Declarations.{Declarations}
@@ -9,19 +11,31 @@ use Rattle.fvn_terms.specs.Equality.{IsAssociative}
 use Rattle.fvn_forms.specs.Flat.{FlatTerm, FlatTerms, fvar, fapp, fnone, fmore, plain}
 use Rattle.fvn_forms.specs.Canon.{sum, inst}
 use Rattle.fvn_forms.specs.Settled.{IsPiece, Settled}
-use Rattle.fvn_flat.specs.Bindings.{Bindings, value}
+use Rattle.fvn_flat.specs.Bindings.{Bindings, bound, value}
 use Rattle.fvn_match.specs.inner.Choices.{reduced}
 use Rattle.fvn_match.specs.inner.Tallies.{repeated, AreDistinct, AddsUp}
+use Rattle.fvn_match.specs.inner.Summands.{references}
 use Rattle.fvn_match.specs.inner.Candidates.{Values, IsCandidate}
-use Rattle.fvn_match.specs.declared.goals.Goals.{Goals, Done, Lists', Pair'}
+use Rattle.fvn_match.specs.declared.goals.Binding.{Binding}
+use Rattle.fvn_match.specs.declared.goals.Goals.{Goals, Done, Lists', Refs', Pair'}
 use Rattle.fvn_match.specs.declared.goals.SumGoal.{SumGoal}
 use Rattle.fvn_match.specs.declared.goals.Sums.{Sums, NoSum, WithSum'}
-use Rattle.fvn_match.specs.declared.goals.Bound.{Bound, Nothing, Bind'}
+use Rattle.fvn_match.specs.declared.goals.Bound.{Bound, Nothing, Bind', Several'}
+
+-- the values with those of more variables, the last of which is the newest
+abbrev pub with_bindings : Bindings → List Binding → Bindings
+with_bindings b [] = b
+with_bindings b (p ∷ ps) = with_bindings ((p.name, p.value.now) ∷ b) ps
+
+-- what x is bound to, if it is
+abbrev pub IsValue : Bindings → Var → Option (Bor FlatTerm) → Type 0
+IsValue b x found = MatchOption found (bound b x ≡ None) (λ t. bound b x ≡ Some t.now)
 
 -- the variables that were bound, with their values
 abbrev pub bindings_of : Bound → Bindings
 bindings_of Nothing = []
 bindings_of (Bind' x t p rest) = (x, t.now) ∷ bindings_of rest
+bindings_of (Several' values r rest) = with_bindings (bindings_of rest) values.pairs.now
 
 -- the patterns of a sum
 abbrev pub patterns_of : SumGoal → List FlatTerm
@@ -49,6 +63,7 @@ module _ (d : Declarations) where
   abbrev pub Asked : Goals → Sums → Values → Type 0
   Asked Done sums c = SumsHold sums c
   Asked (Lists' ps ts r rest) sums c = AllMake ps.now ts.now c × Asked rest sums c
+  Asked (Refs' pairs r rest) sums c = AllMake (references pairs.patterns.now) (references pairs.targets.now) c × Asked rest sums c
   Asked (Pair' p t r rest) sums c = (inst d c p.now ≡ t.now) × Asked rest sums c
 
   -- what k copies of a pattern ask that are to be this choice of the pieces of a sum, and the other patterns, and then sums
@@ -68,6 +83,7 @@ module _ (d : Declarations) where
   abbrev pub GoalsFit : Goals → Type 0
   GoalsFit Done = Unit {0}
   GoalsFit (Lists' ps ts r rest) = AllZip IsPair ps.now ts.now × GoalsFit rest
+  GoalsFit (Refs' pairs r rest) = AllZip IsPair (references pairs.patterns.now) (references pairs.targets.now) × GoalsFit rest
   GoalsFit (Pair' p t r rest) = IsPair p.now t.now × GoalsFit rest
 
   -- a flat form of the kind
@@ -118,6 +134,7 @@ weight_of (t ∷ ts) = weight t + 2 + weight_of ts
 abbrev pub goals_weight : Goals → ℕ
 goals_weight Done = 0
 goals_weight (Lists' ps ts r rest) = weight_of ps.now + 1 + goals_weight rest
+goals_weight (Refs' pairs r rest) = weight_of (references pairs.patterns.now) + 1 + goals_weight rest
 goals_weight (Pair' p t r rest) = weight p.now + 1 + goals_weight rest
 
 -- that of a sum

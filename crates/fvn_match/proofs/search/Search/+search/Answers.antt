@@ -3,7 +3,6 @@ use Rattle.std.proofs.Common.{◌≡◌, ◌≤◌, length, get_or, Some, refl, 
 use Rattle.std.specs.Prelude.{IfOk, ◌*◌, reverse, sum as std_sum}
 use Rattle.std.specs.List.{AllZip, AllByRecursion}
 use Rattle.std.proofs.lemmas.Bool.{false≢true, eqb-true}
-use Rattle.std.proofs.lemmas.List.{take_rest}
 use Rattle.fvn_terms.specs.Signature.{kind, axioms}
 use Rattle.fvn_terms.specs.Equality.{is_sum}
 use Rattle.fvn_terms.proofs.AxiomWords.{sums_associate}
@@ -11,7 +10,7 @@ use Rattle.fvn_forms.specs.InOrder.{InOrder}
 use Rattle.fvn_match.specs.inner.Choices.{IsWithin}
 use Rattle.fvn_match.specs.inner.Summands.{references, IsCounted}
 use Rattle.fvn_match.specs.inner.Candidates.{IsSolution, Finds}
-use Rattle.fvn_match.specs.inner.Goals.{bindings_of, patterns_of, SumsHold, Asked, ChoiceAsked, IsPair, IsFlatOf, GoalsFit, SumsFit, weight, weight_of, goals_weight, sums_weight}
+use Rattle.fvn_match.specs.inner.Goals.{bindings_of, patterns_of, SumsHold, Asked, AllMake, ChoiceAsked, IsPair, IsFlatOf, GoalsFit, SumsFit, weight, weight_of, goals_weight, sums_weight}
 use Rattle.fvn_match.specs.inner.Searching.{SearchesGoals, SearchesPair, IsWhole}
 use Rattle.fvn_match.specs.inner.Known.{LeavesOpen}
 use Rattle.fvn_match.specs.declared.goals.Goals.{Done}
@@ -19,14 +18,16 @@ use Rattle.fvn_match.proofs.AxiomTests.{free_at, commutative_at}
 use Rattle.fvn_match.proofs.Advancing.{zeros_within, rises, place_value_bounded, RisesIf}
 use Rattle.fvn_match.proofs.SummandLists.{parts_in_order}
 use Rattle.fvn_match.proofs.Runs.{length_references, references-drop}
-use Rattle.fvn_match.proofs.PairSteps.{zip_parted, variable_is, variable_or_head}
-use Rattle.fvn_match.proofs.PairFinding.{zip_long, to_rest, two_is, one_more_candidate, if_found_bound, refused_sort, refused_above, found_known, refused_known, found_straight_of, found_across_of, crossing_pairs, found_values, found_no_pairs, found_list, refused_unheaded, pairs_of_args, as_many_args, found_free, crossing_args, two_of_patterns, two_of_targets, found_commutative}
+use Rattle.fvn_match.proofs.PairSteps.{variable_is, variable_or_head}
+use Rattle.fvn_match.specs.inner.Apart.{IsTakenApart}
+use Rattle.fvn_match.proofs.TakingApart.{untouched_fits, as_many_left, left_pairs, left_values, lighter_left, found_never, found_apart, refs_parted, refs_weight, found_refs}
+use Rattle.fvn_match.proofs.PairFinding.{zip_long, two_is, one_more_candidate, if_found_bound, refused_sort, refused_above, found_known, refused_known, found_straight_of, found_across_of, crossing_pairs, found_values, found_no_pairs, refused_unheaded, pairs_of_args, as_many_args, found_free, crossing_args, two_of_patterns, two_of_targets, found_commutative}
 use Rattle.fvn_match.proofs.SumFitting.{started_fits, smaller_fits}
 use Rattle.fvn_match.proofs.SumFinding.{IsTried, no_patterns, group_of, group_within, choice_within, as_long, length_quotients, each_itself, refused_short, refused_closed, found_open, open_fits, open_weight, refused_left, found_taken, found_only, found_choices, tried_none, found_choice, tried_one, tried_all}
 use Rattle.fvn_match.proofs.ChoiceFinding.{refused_whole, whole_pair, left_fits, found_whole}
 use Rattle.fvn_match.proofs.SummedFinding.{found_summed}
 use Rattle.fvn_match.proofs.WholeSteps.{not_zero}
-use Rattle.fvn_match.proofs.Weights.{weight_args, weight_of-reverse, weight_of-first, weight_of-group}
+use Rattle.fvn_match.proofs.Weights.{weight_args, weight_of-reverse, weight_of-group}
 use Rattle.fvn_match.proofs.search.Search.+search.Goals as goal
 
 -- goals and sums, from the first on
@@ -46,6 +47,17 @@ solve-lists-requires t c =
 pub solve-returns-in-Lists : goal.solve-returns-in-Lists
 solve-returns-in-Lists t c = subst (λ g. IfOk c.lists.result (SearchesGoals c.args.self.now g c.args.sums.now c.args.bound.now)) (sym c.in-Lists.is) c.lists.ensures
 
+pub solve-refs-requires : goal.solve-refs-requires
+solve-refs-requires t c =
+    let fits = subst (GoalsFit c.args.self.now.sig.now) c.in-Refs.is c.requires.state.pairs in
+    let long = zip_long (IsPair c.args.self.now.sig.now) (references c.in-Refs.pairs.patterns.now) (references c.in-Refs.pairs.targets.now) fits.0 in
+    let ps = length_references c.in-Refs.pairs.patterns.now in
+    let ts = length_references c.in-Refs.pairs.targets.now in
+    (omega (arith, ap goals_weight c.in-Refs.is), (c.requires.vars, (sym ps ∙ long ∙ ts, (fits.0, record { pairs = fits.1; sums = c.requires.state.sums; values = c.requires.state.values }))))
+
+pub solve-returns-in-Refs : goal.solve-returns-in-Refs
+solve-returns-in-Refs t c = subst (λ g. IfOk c.refs.result (SearchesGoals c.args.self.now g c.args.sums.now c.args.bound.now)) (sym c.in-Refs.is) c.refs.ensures
+
 pub solve-sum-requires : goal.solve-sum-requires
 solve-sum-requires t c =
     let fits = subst (SumsFit c.args.self.now.sig.now) c.in-WithSum.is c.requires.state.sums in
@@ -63,40 +75,68 @@ solve-returns-in_ok-s-in-NoSum t c =
     (found_values c.args.self.now.sig.now (bindings_of c.args.bound.now) c.args.self.now.vars.now c.in_ok-s-in-NoSum.s c.requires.state.values c.in_ok-s-in-NoSum.ensures))
 
 -- two lists
-pub lists-solve-requires : goal.lists-solve-requires
-lists-solve-requires t c = (omega arith, (c.requires.vars, c.requires.state))
+pub lists-take_all-requires-clause-fits : goal.lists-take_all-requires-clause-fits
+lists-take_all-requires-clause-fits t c = untouched_fits c.args.self.now.sig.now (bindings_of c.args.bound.now) c.requires.state.values c.untouched-parts.result c.untouched-parts.ensures
 
-pub lists-returns-then-is_empty : goal.lists-returns-then-is_empty
-lists-returns-then-is_empty t c =
-    found_no_pairs c.args.self.now.sig.now (bindings_of c.args.bound.now) c.args.self.now.vars.now (Asked c.args.self.now.sig.now c.args.rest.now c.args.sums.now)
-    c.args.ps.now c.args.ts.now (eqb-true (length c.args.ps.now) 0 (sym c.is_empty.ensures ∙ c.if-is_empty.true)) c.requires.lengths c.solve.result c.solve.ensures
+pub lists-returns-then-not-can : goal.lists-returns-then-not-can
+lists-returns-then-not-can t c =
+    found_never c.args.self.now.sig.now (bindings_of c.args.bound.now) c.args.self.now.vars.now (Asked c.args.self.now.sig.now c.args.rest.now c.args.sums.now) c.untouched-parts.result c.take_all.new.self c.untouched-parts.ensures
+    c.args.ps.now c.args.ts.now (rw c.if-not-can.true at c.in_ok-can.ensures)
 
-pub lists-pair-requires : goal.lists-pair-requires
-lists-pair-requires t c =
-    let ps = c.args.ps.now in
-    let ts = c.args.ts.now in
-    let some = not_zero (length ps) (sym c.is_empty.ensures ∙ c.if-is_empty.false) in
-    let z = (zip_parted (IsPair c.args.self.now.sig.now) ps ts c.index-ps-0.result c.index-ts-0.result some (sym c.requires.lengths) c.index-ps-0.is c.index-ts-0.is).0 c.requires.pairs in
-    let w = weight_of-first ps c.index-ps-0.result some c.index-ps-0.is in
-    let v = ap weight_of (take_rest ps 1) in (
-      omega (arith, w, v),
+pub lists-refs-requires : goal.lists-refs-requires
+lists-refs-requires t c =
+    let d = c.args.self.now.sig.now in
+    let b = bindings_of c.args.bound.now in
+    let after = c.take_all.new.self in
+    let taken : IsTakenApart d b c.untouched-parts.result after (AllMake d c.args.ps.now c.args.ts.now) (weight_of c.args.ps.now) = rw c.if-not-can.false at c.in_ok-can.ensures in
+    let qs = c.as_slice-patterns.ensures.value in
+    let us = c.as_slice-targets.ensures.value in
+    let light = lighter_left d b c.args.self.now.vars.now (Asked d c.args.rest.now c.args.sums.now) c.untouched-parts.result after c.untouched-parts.ensures c.args.ps.now c.args.ts.now taken in
+    let heavy = ap (λ l. weight_of (references l)) qs in (
+      omega (arith, light, heavy),
       (
         c.requires.vars,
         (
-          z.0,
-          record {
-            pairs = (to_rest (IsPair c.args.self.now.sig.now) ps ts z.1, c.requires.state.pairs);
-            sums = c.requires.state.sums;
-            values = c.requires.state.values;
-          },
+          ap length qs ∙ as_many_left d b after taken.fits ∙ sym (ap length us),
+          (
+            left_pairs d b after taken.fits c.as_slice-patterns.result.now c.as_slice-targets.result.now qs us,
+            record { pairs = c.requires.state.pairs; sums = c.requires.state.sums; values = left_values d b after taken.fits c.as_slice.result.now c.as_slice.ensures.value },
+          ),
         ),
       ),
     )
 
 pub lists-returns : goal.lists-returns
 lists-returns t c =
-    found_list c.args.self.now.sig.now (bindings_of c.args.bound.now) c.args.self.now.vars.now (Asked c.args.self.now.sig.now c.args.rest.now c.args.sums.now)
-    c.args.ps.now c.args.ts.now c.index-ps-0.result c.index-ts-0.result (not_zero (length c.args.ps.now) (sym c.is_empty.ensures ∙ c.if-is_empty.false)) c.requires.lengths c.index-ps-0.is c.index-ts-0.is c.pair.result c.pair.ensures
+    let d = c.args.self.now.sig.now in
+    let b = bindings_of c.args.bound.now in
+    found_apart d b c.args.self.now.vars.now (Asked d c.args.rest.now c.args.sums.now) c.untouched-parts.result c.take_all.new.self c.untouched-parts.ensures c.args.ps.now c.args.ts.now (rw c.if-not-can.false at c.in_ok-can.ensures)
+    c.as_slice.result.now c.as_slice-patterns.result.now c.as_slice-targets.result.now c.as_slice.ensures.value c.as_slice-patterns.ensures.value c.as_slice-targets.ensures.value c.refs.result c.refs.ensures
+
+-- references, pair by pair
+pub refs-solve-requires : goal.refs-solve-requires
+refs-solve-requires t c = (omega arith, (c.requires.vars, c.requires.state))
+
+pub refs-returns-then-is_empty : goal.refs-returns-then-is_empty
+refs-returns-then-is_empty t c =
+    let none = eqb-true (length c.args.ps.now) 0 (sym c.is_empty.ensures ∙ c.if-is_empty.true) in
+    found_no_pairs c.args.self.now.sig.now (bindings_of c.args.bound.now) c.args.self.now.vars.now (Asked c.args.self.now.sig.now c.args.rest.now c.args.sums.now)
+    (references c.args.ps.now) (references c.args.ts.now) (length_references c.args.ps.now ∙ none) (length_references c.args.ps.now ∙ c.requires.lengths ∙ sym (length_references c.args.ts.now)) c.solve.result c.solve.ensures
+
+pub refs-pair-requires : goal.refs-pair-requires
+refs-pair-requires t c =
+    let some = not_zero (length c.args.ps.now) (sym c.is_empty.ensures ∙ c.if-is_empty.false) in
+    let z = (refs_parted c.args.ps.now c.args.ts.now c.index-ps-0.result c.index-ts-0.result some c.requires.lengths c.index-ps-0.is c.index-ts-0.is (IsPair c.args.self.now.sig.now)).0 c.requires.pairs in
+    let w = refs_weight c.args.ps.now c.args.ts.now c.index-ps-0.result c.index-ts-0.result some c.requires.lengths c.index-ps-0.is c.index-ts-0.is in (
+      omega (arith, w),
+      (c.requires.vars, (z.0, record { pairs = (z.1, c.requires.state.pairs); sums = c.requires.state.sums; values = c.requires.state.values })),
+    )
+
+pub refs-returns : goal.refs-returns
+refs-returns t c =
+    let some = not_zero (length c.args.ps.now) (sym c.is_empty.ensures ∙ c.if-is_empty.false) in
+    found_refs c.args.ps.now c.args.ts.now c.index-ps-0.result c.index-ts-0.result some c.requires.lengths c.index-ps-0.is c.index-ts-0.is
+    c.args.self.now.sig.now (bindings_of c.args.bound.now) c.args.self.now.vars.now (Asked c.args.self.now.sig.now c.args.rest.now c.args.sums.now) c.pair.result c.pair.ensures
 
 -- a pair
 pub pair-variable-requires : goal.pair-variable-requires

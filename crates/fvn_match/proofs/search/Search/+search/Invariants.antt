@@ -1,5 +1,6 @@
 -- The measures of the search, and the choices that were tried.
 use Rattle.std.proofs.Common.{◌+◌, ◌-◌, ◌*◌}
+use Rattle.fvn_match.specs.inner.Summands.{references}
 use Rattle.fvn_match.specs.inner.Choices.{IsWithin, place_value}
 use Rattle.fvn_match.specs.inner.Goals.{bindings_of, weight, weight_of, goals_weight, sums_weight, patterns_of}
 use Rattle.fvn_match.proofs.SumFinding.{IsTried}
@@ -10,7 +11,10 @@ abbrev pub decreases-solve : goal.decreases-solve
 decreases-solve l = 4 * (goals_weight l.goals.now + sums_weight l.sums.now)
 
 abbrev pub decreases-lists : goal.decreases-lists
-decreases-lists l = 4 * (weight_of l.ps.now + goals_weight l.rest.now + sums_weight l.sums.now) + 1
+decreases-lists l = 4 * (weight_of l.ps.now + goals_weight l.rest.now + sums_weight l.sums.now) + 2
+
+abbrev pub decreases-refs : goal.decreases-refs
+decreases-refs l = 4 * (weight_of (references l.ps.now) + goals_weight l.rest.now + sums_weight l.sums.now) + 1
 
 abbrev pub decreases-pair : goal.decreases-pair
 decreases-pair l = 4 * (weight l.p.now + goals_weight l.rest.now + sums_weight l.sums.now) + 2
