@@ -1,9 +1,10 @@
-//! What `unify` prints over operators with axioms, over several sorts, and of several pairs.
+//! What `unify` prints over operators with axioms, over several sorts, and of several pairs, and what `work` prints.
 use super::table_told;
 use fvn_terms::NoMemory;
 
 /// Modules, and problems over each with the lines that are printed of them, worked out by hand or by Maude. The lines of one
-/// module end with carriage returns, and its names have backquotes.
+/// module end with carriage returns, and its names have backquotes. `work` reads none, and counts 3 to the power of its number,
+/// less 2.
 const PROBLEMS: &str = "\
 fmod FREE is
   sort S .
@@ -61,6 +62,10 @@ unify | X =? a b ==> 4 | problem 2
 
  <=
 unify | X =? X ==> 3 | module 2
+work | 3 ==> 0 | complete 25
+work | 4 ==> 0 | complete 79
+work | 5 ==> 0 | complete 241
+work | 6 ==> 0 | complete 727
 
 fmod QUOTED is\r
   sort S .\r
