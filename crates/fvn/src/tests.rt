@@ -118,10 +118,10 @@ fn spread(alloc: Global, short: &str) -> Result<String, NoMemory> {
 
 /// The words of a row; there are none in an empty text.
 fn words_of(alloc: Global, command: &str) -> Result<Vec<String>, NoMemory> {
-    let mut words = Vec::new(alloc);
     if command.is_empty() {
-        return Ok(words);
+        return Ok(Vec::new(alloc));
     }
+    let mut words = Vec::new(alloc);
     for word in command.split(" | ") {
         words.push(String::from_str(alloc, word)?)?;
     }
