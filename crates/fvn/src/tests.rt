@@ -1,333 +1,252 @@
 //! The program's answers, from the words and the module to the bytes that are written.
 mod check;
 mod faults;
-mod large;
 mod limits;
 mod meeting;
 mod terminates;
 mod unify;
+mod usage;
 mod variants;
 mod verify;
-mod work;
 
 use crate::program;
-use fvn_cover::OpenGate;
+use fvn_cover::{Gate, OpenGate};
 use fvn_outside::{MemSink, MemSource};
 use fvn_terms::NoMemory;
-use fvn_tool::{Status, run};
 use std::alloc::Global;
 use std::process::{Abort, ExitCode};
 use std::string::String;
 use std::thread::Threads;
 
-const FREE: &str =
-    "fmod FREE is\n  sort S .\n  ops a b : -> S .\n  op p : S S -> S .\n  vars X Y : S .\nendfm\n";
+// A table is a text of blocks, with an empty line between two. A block is a module, ` <=` and a line of its own for each
+// row; or rows alone. A row is `words ==> number | lines`, or `words <= module ==> number | lines`: the words of the
+// command line, with ` | ` between two; the number that the run exits with; and the lines that it writes, or in place of
+// all but the last of them how many these are, as in `7 lines | complete 7`. Between two tildes a number, `%` and a part
+// stand for the part so many times, with the number of each time, from 0 on, in place of a mark `@`.
 
-/// A problem whose most general unifier has a term of 1,023 symbols.
-const LARGE: &str = "p(V0:S,p(V1:S,p(V2:S,p(V3:S,p(V4:S,p(V5:S,p(V6:S,p(V7:S,V8:S)))))))) =? \
-        p(p(V1:S,V1:S),p(p(V2:S,V2:S),p(p(V3:S,V3:S),p(p(V4:S,V4:S),p(p(V5:S,V5:S),p(p(V6:S,V6:S),p(p(V7:S,V7:S),p(p(V8:S,V8:S),p(V9:S,V9:S)))))))))";
+/// The bytes that a sink has room for.
+const ROOM: usize = 1_000_000;
 
-const USAGE: &str = "usage: fvn check|unify|variants|vunify|verify|work|terminates\n";
-
-/// The words, the pieces and the calls that are to fail.
+/// The words, the module, the calls that are to fail, or none for 0, and the room of the sink.
 #[derive(Drop)]
 struct Setting<'a> {
-    words: &'a [&'a str],
+    words: &'a [String],
     module: &'a [u8],
     failing_read: u64,
     failing_write: u64,
-    read_piece: usize,
-    write_piece: usize,
     room: usize,
 }
 
-fn plain<'a>(words: &'a [&'a str], module: &'a [u8]) -> Setting<'a> {
+/// No call fails.
+fn plain<'a>(words: &'a [String], module: &'a [u8]) -> Setting<'a> {
     Setting {
         words,
         module,
         failing_read: 0,
         failing_write: 0,
-        read_piece: 4096,
-        write_piece: 4096,
-        room: 65536,
+        room: ROOM,
     }
 }
 
-/// The number of the call that is to fail, or none for 0.
-fn failing(alloc: Global, call: u64) -> Result<Vec<u64>, NoMemory> {
-    let mut calls = Vec::new(alloc);
-    if call > 0 {
-        calls.push(call)?;
-    }
-    Ok(calls)
+/// A row, of which each part is as it stands there.
+#[derive(Drop)]
+struct Row<'a> {
+    command: &'a str,
+    module: &'a str,
+    number: &'a str,
+    lines: &'a str,
 }
 
-/// The words of a setting.
-fn words_of(alloc: Global, setting: &Setting) -> Result<Vec<String>, NoMemory> {
+/// The row of a line, over this module if it has none of its own.
+fn row_of<'a>(line: &'a str, module: &'a str) -> Row<'a> {
+    let (asked, said) = line.split_once(" ==> ").unwrap_or((line, "no row"));
+    let (command, module) = asked.split_once(" <= ").unwrap_or((asked, module));
+    let (number, lines) = said.split_once(" | ").unwrap_or((said, "no lines"));
+    Row {
+        command,
+        module,
+        number,
+        lines,
+    }
+}
+
+fn number(text: &str) -> usize {
+    text.parse::<usize>().unwrap_or(0)
+}
+
+/// The part, with the number in place of a mark.
+fn push_with_number(
+    alloc: Global,
+    text: &mut String,
+    part: &str,
+    n: usize,
+) -> Result<(), NoMemory> {
+    match part.split_once('@') {
+        Some((before, behind)) => {
+            let marked = format!(in alloc; "{before}{n}{behind}")?;
+            text.push_str(marked.as_str())?;
+        }
+        None => text.push_str(part)?,
+    }
+    Ok(())
+}
+
+/// The part so many times.
+fn push_often(alloc: Global, text: &mut String, count: usize, part: &str) -> Result<(), NoMemory> {
+    for n in 0..count {
+        push_with_number(alloc, text, part, n)?;
+    }
+    Ok(())
+}
+
+/// A piece of a text: as it is, or a number and a part.
+fn push_piece(alloc: Global, text: &mut String, piece: &str) -> Result<(), NoMemory> {
+    match piece.split_once('%') {
+        Some((count, part)) => push_often(alloc, text, number(count), part),
+        None => Ok(text.push_str(piece)?),
+    }
+}
+
+/// The text with all its parts.
+fn spread(alloc: Global, short: &str) -> Result<String, NoMemory> {
+    let mut text = String::new(alloc);
+    for piece in short.split('~') {
+        push_piece(alloc, &mut text, piece)?;
+    }
+    Ok(text)
+}
+
+/// The words of a row; there are none in an empty text.
+fn words_of(alloc: Global, command: &str) -> Result<Vec<String>, NoMemory> {
+    if command.is_empty() {
+        return Ok(Vec::new(alloc));
+    }
     let mut words = Vec::new(alloc);
-    for word in setting.words {
+    for word in command.split(" | ") {
         words.push(String::from_str(alloc, word)?)?;
     }
     Ok(words)
 }
 
-/// The source of a setting.
-fn source_of(alloc: Global, setting: &Setting) -> Result<MemSource, NoMemory> {
-    let bytes = Vec::from_slice(alloc, setting.module)?;
-    let reads = failing(alloc, setting.failing_read)?;
-    Ok(MemSource::new(bytes, setting.read_piece.max(1), reads))
+/// The lines of a row, each with its end.
+fn text_of(alloc: Global, lines: &str) -> Result<String, NoMemory> {
+    let mut text = lines.replace(alloc, " | ", "\n")?;
+    text.push('\n')?;
+    Ok(text)
 }
 
-/// The sink of a setting.
+/// The source of a setting: a read gives 64 bytes at most.
+fn source_of(alloc: Global, setting: &Setting) -> Result<MemSource, NoMemory> {
+    let bytes = Vec::from_slice(alloc, setting.module)?;
+    let reads = Vec::from_slice(alloc, &[setting.failing_read])?;
+    Ok(MemSource::new(bytes, 64, reads))
+}
+
+/// The sink of a setting: a write takes 3 bytes at most.
 fn sink_of(alloc: Global, setting: &Setting) -> Result<MemSink, NoMemory> {
-    let writes = failing(alloc, setting.failing_write)?;
-    match MemSink::new(alloc, setting.room, setting.write_piece.max(1), writes) {
+    let writes = Vec::from_slice(alloc, &[setting.failing_write])?;
+    match MemSink::new(alloc, setting.room, 3, writes) {
         Ok(out) => Ok(out),
         Err(_) => Err(NoMemory),
     }
 }
 
-/// The status of a run, which writes to the sink.
-fn status_of<R: Threads + Sync>(
-    rt: &R,
-    alloc: Global,
-    setting: &Setting,
-    out: &mut MemSink,
-) -> Result<Status, NoMemory> {
-    let words = words_of(alloc, setting)?;
-    let mut module = source_of(alloc, setting)?;
-    Ok(run(rt, &OpenGate, alloc, words.as_slice(), &mut module, out))
-}
-
 /// The exit code of a run, which writes to the sink.
-fn code_of<R: Threads + Sync>(
+fn code_of<R: Threads + Sync, G: Gate>(
     rt: &R,
+    gate: &G,
     alloc: Global,
     setting: &Setting,
     out: &mut MemSink,
 ) -> Result<ExitCode, NoMemory> {
-    let words = words_of(alloc, setting)?;
     let mut module = source_of(alloc, setting)?;
-    Ok(program(rt, &OpenGate, alloc, words.as_slice(), &mut module, out))
+    Ok(program(rt, gate, alloc, setting.words, &mut module, out))
 }
 
-/// The status of a run, and what was written.
-fn answer<R: Threads + Sync>(
+fn lines_in(text: &[u8]) -> usize {
+    let mut count = 0usize;
+    for b in text {
+        if *b == b'\n' {
+            count = count.saturating_add(1);
+        }
+    }
+    count
+}
+
+/// Whether the text is what is said, or has as many lines as are said before the last one.
+fn is_said(text: &[u8], said: &str) -> bool {
+    match said.split_once(" lines\n") {
+        Some((count, last)) => {
+            lines_in(text) == number(count).saturating_add(1) && text.ends_with(last.as_bytes())
+        }
+        None => text == said.as_bytes(),
+    }
+}
+
+/// Whether a run exits with this number and writes what is said.
+fn answers<R: Threads + Sync, G: Gate>(
     rt: &R,
+    gate: &G,
     alloc: Global,
     setting: &Setting,
-) -> Result<(Status, Vec<u8>), NoMemory> {
+    number: u8,
+    said: &str,
+) -> Result<bool, NoMemory> {
     let mut out = sink_of(alloc, setting)?;
-    let status = status_of(rt, alloc, setting, &mut out)?;
-    let written = Vec::from_slice(alloc, out.written())?;
-    Ok((status, written))
+    let code = code_of(rt, gate, alloc, setting, &mut out)?;
+    Ok(code == ExitCode::from(number) && is_said(out.written(), said))
 }
 
-/// The status and the text of a run with these words.
-fn assert_answer<R: Abort + Threads + Sync>(
+/// A run exits with this number and writes what is said.
+fn told<R: Abort + Threads + Sync, G: Gate>(
     rt: &R,
-    alloc: Global,
-    words: &[&str],
-    module: &[u8],
-    want: Status,
-    text: &[u8],
-) -> Result<(), NoMemory> {
-    let (status, written) = answer(rt, alloc, &plain(words, module))?;
-    assert_eq!(rt; status, want);
-    assert!(rt; written.as_slice() == text);
-    Ok(())
-}
-
-/// The exit code of a run of `unify`.
-fn assert_code<R: Abort + Threads + Sync>(
-    rt: &R,
+    gate: &G,
     alloc: Global,
     setting: &Setting,
-    code: u8,
+    number: u8,
+    said: &str,
 ) -> Result<(), NoMemory> {
-    let mut out = sink_of(alloc, setting)?;
-    let found = code_of(rt, alloc, setting, &mut out)?;
-    assert!(rt; found == ExitCode::from(code), "{code}");
+    let same = answers(rt, gate, alloc, setting, number, said)?;
+    assert!(rt; same, "at {number} and {said}");
     Ok(())
 }
 
-/// The exit code of a run over a problem and a module.
-fn assert_exit<R: Abort + Threads + Sync>(
+/// What is said in a row.
+fn row_told<R: Abort + Threads + Sync, G: Gate>(
+    rt: &R,
+    gate: &G,
+    alloc: Global,
+    row: &Row,
+) -> Result<(), NoMemory> {
+    let words = words_of(alloc, row.command)?;
+    let said = text_of(alloc, row.lines)?;
+    let setting = plain(words.as_slice(), row.module.as_bytes());
+    let number = row.number.parse::<u8>().unwrap_or(9);
+    told(rt, gate, alloc, &setting, number, said.as_str())
+}
+
+/// The rows of a block.
+fn block_told<R: Abort + Threads + Sync>(
     rt: &R,
     alloc: Global,
-    problem: &str,
-    module: &str,
-    code: u8,
+    block: &str,
 ) -> Result<(), NoMemory> {
-    assert_code(
-        rt,
-        alloc,
-        &plain(&["unify", problem], module.as_bytes()),
-        code,
-    )
-}
-
-/// The exit code of a run of which a read or a write fails.
-fn assert_failed<R: Abort + Threads + Sync>(
-    rt: &R,
-    alloc: Global,
-    failing_read: u64,
-    failing_write: u64,
-    code: u8,
-) -> Result<(), NoMemory> {
-    let words = ["unify", "X =? X"];
-    let mut setting = plain(&words, FREE.as_bytes());
-    setting.failing_read = failing_read;
-    setting.failing_write = failing_write;
-    assert_code(rt, alloc, &setting, code)
-}
-
-#[test]
-fn each_status_has_its_exit_code(rt: HostRuntime) -> Result<(), NoMemory> {
-    assert_exit(&rt, rt.alloc(), "X =? X", FREE, 0)?;
-    assert_exit(&rt, rt.alloc(), "a =? b", FREE, 1)?;
-    assert_exit(&rt, rt.alloc(), "-x", FREE, 2)?;
-    assert_exit(&rt, rt.alloc(), "X =? X", "", 3)?;
-    assert_exit(&rt, rt.alloc(), "X =?", FREE, 4)?;
-    assert_exit(&rt, rt.alloc(), LARGE, FREE, 5)?;
-    assert_failed(&rt, rt.alloc(), 1, 0, 6)?;
-    assert_failed(&rt, rt.alloc(), 0, 1, 7)
-}
-
-/// Words with bars between them, that are no command.
-const NO_COMMANDS: &str = "unify
-unify|a|b
-unify|-x
-solve|X =? X
-check|X =? X
-terminates
-terminates|f : 1|a : 1
-terminates|-x
-work
-work|7
--check
-checks";
-
-/// The words of a line.
-fn split_words<'a>(alloc: Global, line: &'a str) -> Result<Vec<&'a str>, NoMemory> {
-    let mut words = Vec::new(alloc);
-    for word in line.split('|') {
-        words.push(word)?;
-    }
-    Ok(words)
-}
-
-fn assert_usage<R: Abort + Threads + Sync>(
-    rt: &R,
-    alloc: Global,
-    words: &[&str],
-) -> Result<(), NoMemory> {
-    assert_answer(
-        rt,
-        alloc,
-        words,
-        FREE.as_bytes(),
-        Status::Usage,
-        USAGE.as_bytes(),
-    )
-}
-
-#[test]
-fn other_words_are_told_the_usage(rt: HostRuntime) -> Result<(), NoMemory> {
-    assert_usage(&rt, rt.alloc(), &[])?;
-    for line in NO_COMMANDS.lines() {
-        let words = split_words(rt.alloc(), line)?;
-        assert_usage(&rt, rt.alloc(), words.as_slice())?;
+    let (module, rows) = block.split_once(" <=\n").unwrap_or(("", block));
+    for line in rows.lines() {
+        row_told(rt, &OpenGate, alloc, &row_of(line, module))?;
     }
     Ok(())
 }
 
-/// The problem of which reads and writes fail, and the text that is written of it.
-const READ: [&str; 2] = ["unify", "p(X,b) =? p(a,Y)"];
-
-const WRITTEN: &[u8] = b"{X:S --> a, Y:S --> b}\ncomplete 1\n";
-
-/// What is written where the read with this number fails: an eighth one is not made.
-fn written_after(k: u64) -> &'static [u8] {
-    if k <= 7 {
-        return b"".as_slice();
-    }
-    WRITTEN
-}
-
-/// Of reads of 16 bytes the one with this number fails: 86 bytes are six reads, and a seventh finds the end.
-fn assert_read<R: Abort + Threads + Sync>(rt: &R, alloc: Global, k: u64) -> Result<(), NoMemory> {
-    let mut setting = plain(&READ, FREE.as_bytes());
-    setting.read_piece = 16;
-    setting.failing_read = k;
-    let (status, text) = answer(rt, alloc, &setting)?;
-    let want = if k <= 7 {
-        Status::ReadFault
-    } else {
-        Status::Solved
-    };
-    assert_eq!(rt; status, want, "at read {k}");
-    assert!(rt; text.as_slice() == written_after(k), "at read {k}");
-    Ok(())
-}
-
-#[test]
-fn each_read_that_fails_ends_the_run_with_nothing_written(rt: HostRuntime) -> Result<(), NoMemory> {
-    for k in 1..=8u64 {
-        assert_read(&rt, rt.alloc(), k)?;
-    }
-    Ok(())
-}
-
-/// Of the text so many bytes are written, and the status says whether these are all.
-fn assert_front<R: Abort + Threads + Sync>(
+/// The blocks of a table.
+fn table_told<R: Abort + Threads + Sync>(
     rt: &R,
     alloc: Global,
-    setting: &Setting,
-    text: &[u8],
-    count: usize,
+    short: &str,
 ) -> Result<(), NoMemory> {
-    let (status, written) = answer(rt, alloc, setting)?;
-    let want = if count < text.len() {
-        Status::WriteFault
-    } else {
-        Status::Solved
-    };
-    assert_eq!(rt; status, want, "at {count}");
-    assert_eq!(rt; written.len(), count.min(text.len()), "at {count}");
-    assert!(rt; text.starts_with(written.as_slice()), "at {count}");
-    Ok(())
-}
-
-/// Of writes of so many bytes the one with this number fails.
-fn assert_write<R: Abort + Threads + Sync>(
-    rt: &R,
-    alloc: Global,
-    words: &[&str],
-    module: &[u8],
-    text: &[u8],
-    piece: usize,
-    k: u64,
-) -> Result<(), NoMemory> {
-    let mut setting = plain(words, module);
-    setting.write_piece = piece;
-    setting.failing_write = k;
-    let before = (k as usize).wrapping_sub(1).wrapping_mul(piece);
-    assert_front(rt, alloc, &setting, text, before)
-}
-
-#[test]
-fn each_write_that_fails_leaves_a_front_of_the_text(rt: HostRuntime) -> Result<(), NoMemory> {
-    // 34 bytes in pieces of 3 are twelve writes.
-    for k in 1..=13u64 {
-        assert_write(&rt, rt.alloc(), &READ, FREE.as_bytes(), WRITTEN, 3, k)?;
+    let table = spread(alloc, short)?;
+    for block in table.as_str().split("\n\n") {
+        block_told(rt, alloc, block)?;
     }
     Ok(())
-}
-
-#[test]
-fn a_sink_with_too_little_room_has_a_front_of_the_text(rt: HostRuntime) -> Result<(), NoMemory> {
-    let mut setting = plain(&READ, FREE.as_bytes());
-    setting.room = 33;
-    assert_front(&rt, rt.alloc(), &setting, WRITTEN, 33)
 }
