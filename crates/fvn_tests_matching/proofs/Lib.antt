@@ -1,3 +1,2 @@
 -- The lemmas of the crate.
 mod Alike
-mod Arguments

@@ -1,11 +1,6 @@
-//! Flat forms of terms.
-use super::building::{flattened_again, nested, over_arguments, tree};
+//! Terms with their flat forms, and what renaming and substitutions make of them.
 use super::rows::{Asked, assert_table};
-use fvn_flat::{Flat, flatten, rename_apart};
-use fvn_signature::Signature;
-use fvn_terms::{NoMemory, Plain};
-use fvn_tests_samples::{is_term, push_flat, push_sort, term_of};
-use std::alloc::Global;
+use fvn_terms::NoMemory;
 
 // Blocks: a signature, and then terms with their flat form, size and least sort.
 //
@@ -15,7 +10,8 @@ use std::alloc::Global;
 // The signatures are: constants, a unary, a commutative operator and a sum; sets of elements; numbers and
 // sets of them with a sum that has no identity; three sums, two with one identity and one with another; even
 // and odd numbers with a free sum; the same with a sum whose identity is zero; a partial operator; one half
-// of a commutative operator.
+// of a commutative operator; sets whose union has the empty set as its identity; 400 constants, nested to the left, to
+// the right, and in pairs.
 const FORMS: &str =
     "A; f : -> A; g : -> A; h : A -> A; i : A A -> A [comm]; j : A A -> A [assoc comm]
 f => f 1 A
@@ -59,6 +55,10 @@ f g g => g(g(f)) 3 A
 C0 h i => i[C0 h] 3 C
 A0 A0 i A0 i => i[A0 A0 A0] 5 B
 h h i h i => i[h h h] 5 B
+h g => g(h) 2 C
+f h i => i[f h] 3 B
+f g f h i i => i[f g(f) h] 6 B
+f h i g => g(i[f h]) 4 C
 
 A; f : -> A; g : -> A; h : A A -> A [assoc comm id: f]; i : A A -> A [assoc comm id: g]; j : A A -> A [assoc comm id: f]
 f g i => f 1 A
@@ -89,6 +89,14 @@ f g f g h f g h => h[g(f) g(f) g(f)] 8 B
 C0 f h g => g(C0) 2 C
 A0 f h g => g(A0) 2 B
 B0 f h => B0 1 B
+B0 => B0 1 B
+f g => g(f) 2 B
+f g g => g(g(f)) 3 A
+C0 g => g(C0) 2 C
+B0 A1 h => h[B0 A1] 3 B
+f g B0 h => h[B0 g(f)] 4 A
+C0 B1 h => h[C0 B1] 3 C
+D0 f h => D0 1 D
 
 A B; A < B; f : B ~> A; g : -> A
 g f => f(g) 2 C
@@ -96,7 +104,21 @@ A0 f f => f(f(A0)) 3 C
 
 A B; A < B; f : B B -> B [comm]; f : A B -> A [comm]; g : -> B; h : -> A
 B0 A0 f => f(A0 B0) 3 A
-g h f => f(g h) 3 A";
+g h f => f(g h) 3 A
+
+A B; A < B; f : -> B; g : B B -> B [assoc comm id: f]
+f => f 1 B
+A0 A0 g => g[A0 A0] 3 B
+A0 f g => A0 1 A
+f A0 g => A0 1 A
+f A0 f g g => A0 1 A
+f f g => f 1 B
+C0 A0 g => g[A0 C0] 3 C
+
+A; f : -> A; g : -> A; h : A A -> A [assoc comm]
+f g h~ f h g h~ => h[f~ f~~ g~ g] 799 A
+f~ g f~ g~ h~~ h~ h => h[f~ f~~ g~ g] 799 A
+f g h~ f g h h~ => h[f~ f~~ g~ g] 799 A";
 
 // A signature, and then terms with what renaming makes of them from 3 on, and the next free number.
 const RENAMED: &str = "A B; A < B; f : -> A; g : B B -> B; h : B B -> B [assoc comm]
@@ -107,100 +129,30 @@ A0 A0 g => g(#A3 #A3) 4
 A0 B0 g A0 g => g(g(#A3 #B4) #A3) 5
 B2 A0 h A0 B2 g h => h[#A3 #B4 g(#A3 #B4)] 5";
 
-// A signature, and how 500 constants are nested in a sum, with the size of its flat form, and whether it is that of the
-// sum that is nested to the left.
-const NESTED: &str = "A; f : -> A; g : -> A; h : A A -> A [assoc comm]
-left => 999 same
-right => 999 same
-tree => 999";
-/// The flat form of the term, its size and its least sort.
-pub fn shown_form(alloc: Global, sig: &Signature, text: &str) -> Result<String, NoMemory> {
-    let mut out = String::new(alloc);
-    if let Some(t) = term_of(alloc, sig, text)? {
-        if is_term(sig, &t) {
-            let u = flatten(alloc, sig, &t)?;
-            push_flat(&mut out, sig, &u)?;
-            out.push_str(" ")?;
-            out.push(char::from((u.size() % 10) as u8 + b'0'))?;
-            out.push_str(" ")?;
-            push_sort(&mut out, u.least_sort(sig))?;
-            if !flattened_again(alloc, sig, &u)?.same(&u) {
-                out.push_str(" other when flattened again")?;
-            }
-            if !over_arguments(alloc, sig, &t)?.same(&u) {
-                out.push_str(" other over its arguments")?;
-            }
-        }
-    }
-    Ok(out)
-}
+// Blocks: a signature, and then substitutions with a term and what they make of it, all bound variables
+// replaced at once; two substitutions one after the other.
+const INSTANCES: &str = "A B; A < B; f : -> A; g : B B -> B; h : B B -> B [assoc comm]
+B0 f | B0 B1 h => h[B1 f]
+B0 A0 A1 h | B0 A2 h => h[A0 A1 A2]
+B0 B1; B1 f | B0 B1 g => g(B1 f)
+B0 B1 then B1 f | B0 B1 g => g(f f)
+B0 A0 A1 h then A0 f | B0 A0 g => g(h[A1 f] f)
 
-/// The term renamed, and the next free number.
-pub fn shown_renamed(alloc: Global, sig: &Signature, text: &str) -> Result<String, NoMemory> {
-    let mut out = String::new(alloc);
-    if let Some(t) = term_of(alloc, sig, text)? {
-        if is_term(sig, &t) {
-            let u = flatten(alloc, sig, &t)?;
-            if u.size() < 1000 {
-                let (renamed, next) = rename_apart(alloc, sig, &u, 3)?;
-                push_flat(&mut out, sig, &renamed)?;
-                out.push_str(" ")?;
-                out.push(char::from((next % 10) as u8 + b'0'))?;
-            }
-        }
-    }
-    Ok(out)
-}
-
-/// 500 constants as they are nested.
-fn sum_of(alloc: Global, text: &str) -> Result<Plain, NoMemory> {
-    if text == "tree" {
-        return tree(alloc, 500);
-    }
-    nested(alloc, text == "left")
-}
-
-/// The flat form of 500 constants.
-fn form_of_sum(alloc: Global, sig: &Signature, text: &str) -> Result<Option<Flat>, NoMemory> {
-    let t = sum_of(alloc, text)?;
-    if !is_term(sig, &t) {
-        return Ok(None);
-    }
-    let u = flatten(alloc, sig, &t)?;
-    Ok(Some(u))
-}
-
-fn push_compared(out: &mut String, form: &Flat, left: &Flat) -> Result<(), NoMemory> {
-    out.push_str(if form.size() == 999 { "999" } else { "other" })?;
-    if form.same(left) {
-        out.push_str(" same")?;
-    }
-    Ok(())
-}
-
-/// The size of a nested sum's flat form, and whether it is that of the one nested to the left.
-pub fn shown_nested(alloc: Global, sig: &Signature, text: &str) -> Result<String, NoMemory> {
-    let mut out = String::new(alloc);
-    if let Some(form) = form_of_sum(alloc, sig, text)? {
-        if let Some(left) = form_of_sum(alloc, sig, "left")? {
-            push_compared(&mut out, &form, &left)?;
-        }
-    }
-    Ok(out)
-}
+A; f : -> A; g : -> A; h : -> A; i : -> A; j : A A -> A [assoc comm id: i]; k : A A -> A
+A0 f g j | A0 A0 j h j => j[f f g g h]
+A0 i | A0 h j => h
+A0 i | A0 A0 j => i
+A0 i | A0 f k => k(i f)
+A0 A1; A1 A0 | A0 A1 k => k(A1 A0)
+A0 A1 f j; A1 g | A0 A1 k => k(j[A1 f] g)
+A0 A1 f j then A1 g | A0 A1 k => k(j[f g] g)
+A0 A1 f j then A1 i | A0 A1 k => k(f i)
+A0 f then A0 g | A0 A1 k => k(f A1)";
 
 #[test]
 fn terms_have_flat_forms(rt: HostRuntime) -> Result<(), NoMemory> {
-    assert_table(&rt, rt.alloc(), Asked::Form, FORMS)
-}
-
-#[test]
-fn variables_are_renamed(rt: HostRuntime) -> Result<(), NoMemory> {
-    assert_table(&rt, rt.alloc(), Asked::Renamed, RENAMED)
-}
-
-/// Sums of 500 constants have one flat form, however they are nested.
-#[test]
-fn large_sums_have_one_form(rt: HostRuntime) -> Result<(), NoMemory> {
-    assert_table(&rt, rt.alloc(), Asked::Nested, NESTED)
+    let alloc = rt.alloc();
+    assert_table(&rt, alloc, Asked::Form, FORMS)?;
+    assert_table(&rt, alloc, Asked::Renamed, RENAMED)?;
+    assert_table(&rt, alloc, Asked::Instance, INSTANCES)
 }

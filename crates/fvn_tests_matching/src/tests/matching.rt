@@ -1,37 +1,62 @@
 //! Matches the patterns and targets of tests.
-ghost use Rattle.std.specs.Prelude.{IfOk, IfSome};
-ghost use Rattle.fvn_flat.specs.Fits.{Fits};
+ghost use Rattle.fvn_flat.specs.Fits.{AllFit};
 
-use super::counting::are_matched;
 use fvn_flat::{Flat, Subst};
 use fvn_match::matches;
 use fvn_signature::Signature;
 use fvn_terms::NoMemory;
-use fvn_tests_samples::{flat_of, flats_of, push_flat, var_of};
+use fvn_tests_samples::{flats_of, push_flat, var_of};
 use std::alloc::Global;
 
-/// What the variables are bound to that the pairs of the text name.
+// What the variable is bound to that a pair names.
+fn push_bound(out: &mut String, sig: &Signature, s: &Subst, pair: &str) -> Result<(), NoMemory> {
+    let (x, _) = pair.split_once(' ').unwrap_or((pair, ""));
+    if !out.is_empty() {
+        out.push_str("; ")?;
+    }
+    out.push_str(x)?;
+    out.push_str(" ")?;
+    if let Some(t) = s.get(var_of(x)) {
+        push_flat(out, sig, t)?;
+    }
+    Ok(())
+}
+
+// What the variables are bound to that the pairs of the text name; `yes` where any will do.
 fn shown_bindings(
     alloc: Global,
     sig: &Signature,
     s: &Subst,
-    pairs: &str,
+    want: &str,
 ) -> Result<String, NoMemory> {
     let mut out = String::new(alloc);
-    let mut before = false;
-    for pair in pairs.split("; ") {
-        let (x, _) = pair.split_once(' ').unwrap_or((pair, ""));
-        if before {
-            out.push_str("; ")?;
-        }
-        before = true;
-        out.push_str(x)?;
-        out.push_str(" ")?;
-        if let Some(t) = s.get(var_of(x)) {
-            push_flat(&mut out, sig, t)?;
-        }
+    if want == "yes" {
+        out.push_str(want)?;
+        return Ok(out);
+    }
+    for pair in want.split("; ") {
+        push_bound(&mut out, sig, s, pair)?;
     }
     Ok(out)
+}
+
+fn matched(
+    alloc: Global,
+    sig: &Signature,
+    patterns: &[Flat],
+    targets: &[Flat],
+    want: &str,
+) -> Result<String, NoMemory>
+    requires patterns { AllFit sig.now patterns.now }
+    requires targets { AllFit sig.now targets.now }
+{
+    if patterns.len() != targets.len() {
+        return Ok(String::new(alloc));
+    }
+    match matches(alloc, sig, patterns, targets)? {
+        Some(s) => shown_bindings(alloc, sig, &s, want),
+        None => Ok(String::from_str(alloc, "no")?),
+    }
 }
 
 /// What is found for patterns and targets: `no`, or the pairs that are wanted; `yes` where any will do.
@@ -41,75 +66,12 @@ pub fn shown_match(
     text: &str,
     want: &str,
 ) -> Result<String, NoMemory> {
-    let mut out = String::new(alloc);
     let (left, right) = text.split_once(" | ").unwrap_or((text, ""));
-    if let Some(patterns) = flats_of(alloc, sig, left)? {
-        if let Some(targets) = flats_of(alloc, sig, right)? {
-            if patterns.len() == targets.len() {
-                match matches(alloc, sig, patterns.as_slice(), targets.as_slice())? {
-                    None => out.push_str("no")?,
-                    Some(s) => {
-                        if want != "yes" {
-                            return shown_bindings(alloc, sig, &s, want);
-                        }
-                        out.push_str("yes")?;
-                    }
-                }
-            }
-        }
-    }
-    Ok(out)
-}
-
-/// Two terms with a comma between them; none where there are not two.
-fn two_of(alloc: Global, sig: &Signature, text: &str) -> Result<Option<(Flat, Flat)>, NoMemory>
-    ensures { IfOk result (λ o. IfSome o (λ p. Fits sig.now p.0 × Fits sig.now p.1)) }
-{
-    let Some((one, other)) = text.split_once(", ") else {
-        return Ok(None);
+    let Some(patterns) = flats_of(alloc, sig, left)? else {
+        return Ok(String::new(alloc));
     };
-    if other.contains(',') {
-        return Ok(None);
+    match flats_of(alloc, sig, right)? {
+        Some(targets) => matched(alloc, sig, patterns.as_slice(), targets.as_slice(), want),
+        None => Ok(String::new(alloc)),
     }
-    let Some(p) = flat_of(alloc, sig, one)? else {
-        return Ok(None);
-    };
-    let Some(q) = flat_of(alloc, sig, other)? else {
-        return Ok(None);
-    };
-    Ok(Some((p, q)))
-}
-
-/// Whether two patterns are matched, each in a slice of its own; nothing where there are not two.
-fn halves_match(
-    alloc: Global,
-    sig: &Signature,
-    left: &str,
-    right: &str,
-) -> Result<Option<bool>, NoMemory> {
-    if let Some(patterns) = two_of(alloc, sig, left)? {
-        if let Some(targets) = two_of(alloc, sig, right)? {
-            let found = are_matched(alloc, sig, &patterns, &targets)?;
-            return Ok(Some(found));
-        }
-    }
-    Ok(None)
-}
-
-/// What is wanted, unless two patterns in slices of their own are matched otherwise.
-pub fn shown_halves(
-    alloc: Global,
-    sig: &Signature,
-    text: &str,
-    want: &str,
-) -> Result<String, NoMemory> {
-    let mut out = String::new(alloc);
-    let (left, right) = text.split_once(" | ").unwrap_or((text, ""));
-    if let Some(found) = halves_match(alloc, sig, left, right)? {
-        if found != (want != "no") {
-            out.push_str("in slices not ")?;
-        }
-    }
-    out.push_str(want)?;
-    Ok(out)
 }

@@ -1,4 +1,5 @@
-//! Patterns and targets with what is found for them.
+//! Patterns and targets, variants, and substitutions on kinds, each with what is found of them.
+use super::refinements;
 use super::rows::{Asked, assert_table};
 use fvn_terms::NoMemory;
 
@@ -162,44 +163,122 @@ C0 f | g f f => C0 f(g)
 A0 | g f => no
 B0 f | B1 f => B0 B1";
 
-// Signatures with a sum, and then patterns with a number of equal pieces, and whether they are matched.
+// The same for sums of 200 and of 201 equal pieces, and for sums of six and more variables.
 const COUNTED: &str = "A; f : -> A; g : -> A; h : A A -> A [assoc comm]
-A0 A0 A0 h h | 200 => no
-A0 A0 A0 h h | 201 => yes
-A0 A0 A0 A1 A1 h h h h | 200 => yes
-A0 A0 h A0 A0 h h A1 A1 h A1 A1 h h h | 201 => no
-A0 g h | 200 => no
+A0 A0 A0 h h | f~ f h~ => no
+A0 A0 A0 h h | f~ f h~ f h => yes
+A0 A0 A0 A1 A1 h h h h | f~ f h~ => yes
+A0 A0 h A0 A0 h h A1 A1 h A1 A1 h h h | f~ f h~ f h => no
+A0 g h | f~ f h~ => no
 
 A B; A < B; f : -> A; g : -> B; h : B B -> B [assoc comm id: g]
-A0 A1 A2 h h | 200 => no
-A0 A1 B0 h h | 200 => yes
-B0 B0 B0 h h | 200 => no
-A0 A0 h B0 B0 B0 h h h | 200 => yes
-A0 A0 h B0 B0 B0 h h h | 201 => no";
+A0 A1 A2 h h | f~ f h~ => no
+A0 A1 B0 h h | f~ f h~ => yes
+B0 B0 B0 h h | f~ f h~ => no
+A0 A0 h B0 B0 B0 h h h | f~ f h~ => yes
+A0 A0 h B0 B0 B0 h h h | f~ f h~ f h => no
 
-// A sum, and how many variables a pattern and how many equal pieces a target has, and whether they are matched.
-const LARGE: &str = "A; f : -> A; g : -> A; h : A A -> A [assoc comm]
-500 | 500 => yes
-500 | 499 => no";
+A B; A < B; f : -> A; g : -> B; h : B B -> B [assoc comm]
+B0 B1 B2 B3 B4 B5 h h h h h | C0 B1 B2 B3 B4 B5 h h h h h => no
+B0 B1 B2 B3 B4 B5 B6 h h h h h h | C0 B1 B2 B3 B4 B5 B6 h h h h h h => no
+B0 B1 B2 B3 B4 B5 h h h h h | g g h g h g h g h g h => yes
+B0 B1 B2 B3 B4 B5 B6 B7 B8 h h h h h h h h | g g h g h g h g h g h g h g h g h => yes
+B0 B1 B2 B3 B4 B5 B6 B7 B8 h h h h h h h h | g g h g h g h g h g h g h g h g h g h g h g h => yes
+B0 B1 B2 B3 B4 B5 B6 B7 B8 h h h h h h h h | g g h g h g h g h g h g h g h => no
+A0 A1 A2 A3 A4 A5 h h h h h | f f h f h f h f h f h => yes
+A0 A1 A2 A3 A4 A5 h h h h h | g g h g h g h g h g h => no
+A0 A1 A2 A3 A4 A5 h h h h h | f f f f f g h h h h h => no";
+
+// Blocks: a signature, and then two variants with whether the first covers the second, and the second the first.
+//
+// A variant is its terms, a bar, and the values of its variables. A term is written with each operator after
+// its arguments, a variable as the letter of its sort and a number.
+//
+// The signatures are: constants and a free operator; sets of elements with the empty set; constants, a
+// commutative operator and a sum without an identity.
+const COVERED: &str = "A; f : -> A; g : -> A; h : A A -> A
+A0 | A9 A0 / f | A9 f => yes no
+A0 | A9 A0 / f | A9 g => no no
+A0 | A9 A0 / A1 | A9 A1 => yes yes
+A0 | A9 A0 / f g h | A9 f g h => yes no
+A0 | A9 A1 / f | A9 g => yes no
+A0 | A9 f / A0 | A9 g => no no
+f | A9 A0 / g | A9 A0 => no no
+A9 A0 / A9 f => yes no
+A9 A0 A1 h / A9 A0 A0 h => yes no
+A9 A0 A1 h; A8 A0 / A9 f g h; A8 f => yes no
+A9 A0 A1 h; A8 A0 / A9 f g h; A8 g => no no
+A9 A0; A8 A1 / A9 A1; A8 A0 => yes yes
+A0, A1 | A9 A1 / f, g | A9 g => yes no
+A0, A1 | A9 A1 / f, g | A9 f => no no
+
+A B; A < B; f : -> A; g : -> A; h : -> B; i : B B -> B [assoc comm id: h]
+B0 | B8 B0; B9 h / B0 | B8 h; B9 B0 => no no
+B0 | B9 B0 / A0 | B9 A0 => yes no
+B0 B1 i | B9 B0 / B0 | B9 B0 => yes no
+B9 B0 B1 i / B9 B0 => yes yes
+B9 B0 B1 i; B8 B0 / B9 f g i; B8 g => yes no
+B9 A0 B0 i / B9 f => yes no
+B9 A0 B0 i / B9 h => no no
+B9 A0 B0 i / B9 B0 => no yes
+
+A; f : -> A; g : -> A; h : A A -> A [comm]; i : A A -> A [assoc comm]
+A9 A0 f h / A9 f g h => yes no
+A9 A0 A1 i / A9 f g f i i => yes no
+A9 A0 A0 i / A9 f g i => no no
+A9 A0 A0 i; A8 A0 / A9 f f i; A8 f => yes no
+A9 A0 A1 i; A8 A0 / A9 A0 A1 i; A8 A1 => yes yes";
+
+// Blocks: a signature, and then variants with the first values of those that are left.
+const PRUNED: &str = "A; f : -> A; g : -> A; h : A A -> A
+A9 A0 => A0
+A0 | A9 A0 & A1 | A9 A1 & A2 | A9 A2 => A0
+A9 f & A9 A0 => A0
+A9 A0 & A9 f => A0
+A9 f & A9 g => f, g
+A9 f & A9 g & A9 f => f, g
+A9 f & A9 f g h & A9 g & A9 A0 A1 h & A9 f f h => f, g, h(A0 A1)
+A9 f f h & A9 A0 A0 h & A9 A1 A2 h & A9 A3 A3 h => h(A1 A2)
+A9 A0 A1 h & A9 A2 A3 h & A9 f => h(A0 A1), f
+A9 f f h & A9 g & A9 A0 A0 h & A9 A1 & A9 A2 => A1
+A0 | A9 f & A1 | A9 f & f | A9 f => f
+A0 | A9 f & A0 | A9 g => f, g
+
+A B; A < B; f : -> A; g : -> A; h : -> B; i : B B -> B [assoc comm id: h]
+B8 B0; B9 h & B8 h; B9 B0 => B0, h
+B8 B0; B9 h & B8 h; B9 B0 & B8 B0; B9 B1 => B0
+B9 f & B9 f g i & B9 A0 & B9 B0 B1 i & B9 B0 => i[B0 B1]";
+
+// A signature, and then a number of workers, kept variants and candidates with the marks of these.
+const MARKED: &str = "A; f : -> A; g : -> A; h : A A -> A
+1 / A0 | A9 A0 / f | A9 f & f | A9 g & f g h | A9 f g h => yes no yes
+1 / A9 f & A9 g / A9 g => yes
+1 / A9 f / A9 g & A9 f & A9 A0 & A9 f & A9 f f h => no yes no yes no
+1 / A9 f & A9 A0 A1 h / A9 g & A9 f f h & A9 f & A9 A0 f h & A9 A0 & A9 g g h & A9 g => no yes yes yes no yes no
+1 / A9 f & A9 g / A9 f & A9 f & A9 g & A9 A0 & A9 f & A9 A0 & A9 f & A9 f & A9 f & A9 g & A9 A0 & A9 f & A9 f & A9 f & A9 A0 & A9 g & A9 A0 & A9 f => yes yes yes no yes no yes yes yes yes no yes yes yes no yes no yes
+2 / A0 | A9 A0 / f | A9 f & f | A9 g & f g h | A9 f g h => yes no yes
+2 / A9 f & A9 g / A9 g => yes
+2 / A9 f / A9 g & A9 f & A9 A0 & A9 f & A9 f f h => no yes no yes no
+2 / A9 f & A9 A0 A1 h / A9 g & A9 f f h & A9 f & A9 A0 f h & A9 A0 & A9 g g h & A9 g => no yes yes yes no yes no
+2 / A9 f & A9 g / A9 f & A9 f & A9 g & A9 A0 & A9 f & A9 A0 & A9 f & A9 f & A9 f & A9 g & A9 A0 & A9 f & A9 f & A9 f & A9 A0 & A9 g & A9 A0 & A9 f => yes yes yes no yes no yes yes yes yes no yes yes yes no yes no yes
+3 / A0 | A9 A0 / f | A9 f & f | A9 g & f g h | A9 f g h => yes no yes
+3 / A9 f & A9 g / A9 g => yes
+3 / A9 f / A9 g & A9 f & A9 A0 & A9 f & A9 f f h => no yes no yes no
+3 / A9 f & A9 A0 A1 h / A9 g & A9 f f h & A9 f & A9 A0 f h & A9 A0 & A9 g g h & A9 g => no yes yes yes no yes no
+3 / A9 f & A9 g / A9 f & A9 f & A9 g & A9 A0 & A9 f & A9 A0 & A9 f & A9 f & A9 f & A9 g & A9 A0 & A9 f & A9 f & A9 f & A9 A0 & A9 g & A9 A0 & A9 f => yes yes yes no yes no yes yes yes yes no yes yes yes no yes no yes
+16 / A0 | A9 A0 / f | A9 f & f | A9 g & f g h | A9 f g h => yes no yes
+16 / A9 f & A9 g / A9 g => yes
+16 / A9 f / A9 g & A9 f & A9 A0 & A9 f & A9 f f h => no yes no yes no
+16 / A9 f & A9 A0 A1 h / A9 g & A9 f f h & A9 f & A9 A0 f h & A9 A0 & A9 g g h & A9 g => no yes yes yes no yes no
+16 / A9 f & A9 g / A9 f & A9 f & A9 g & A9 A0 & A9 f & A9 A0 & A9 f & A9 f & A9 f & A9 g & A9 A0 & A9 f & A9 f & A9 f & A9 A0 & A9 g & A9 A0 & A9 f => yes yes yes no yes no yes yes yes yes no yes yes yes no yes no yes";
 
 #[test]
-fn patterns_are_matched(rt: HostRuntime) -> Result<(), NoMemory> {
-    assert_table(&rt, rt.alloc(), Asked::Match, ROWS)
-}
-
-/// Two patterns in slices of their own are matched as two in one slice.
-#[test]
-fn slices_are_one_list(rt: HostRuntime) -> Result<(), NoMemory> {
-    assert_table(&rt, rt.alloc(), Asked::Halves, ROWS)
-}
-
-/// Equal pieces are divided by their number.
-#[test]
-fn equal_pieces_are_divided(rt: HostRuntime) -> Result<(), NoMemory> {
-    assert_table(&rt, rt.alloc(), Asked::Counted, COUNTED)
-}
-
-#[test]
-fn large_patterns_are_matched(rt: HostRuntime) -> Result<(), NoMemory> {
-    assert_table(&rt, rt.alloc(), Asked::Large, LARGE)
+fn matchers_are_found(rt: HostRuntime) -> Result<(), NoMemory> {
+    let alloc = rt.alloc();
+    assert_table(&rt, alloc, Asked::Match, ROWS)?;
+    assert_table(&rt, alloc, Asked::Match, COUNTED)?;
+    assert_table(&rt, alloc, Asked::Covers, COVERED)?;
+    assert_table(&rt, alloc, Asked::Pruned, PRUNED)?;
+    assert_table(&rt, alloc, Asked::Marked, MARKED)?;
+    assert_table(&rt, alloc, Asked::Refined, refinements::ROWS)
 }

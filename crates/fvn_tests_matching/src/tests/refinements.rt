@@ -1,18 +1,16 @@
 //! Substitutions on kinds with their refinements.
-use super::rows::{Asked, assert_table};
-use fvn_terms::NoMemory;
 
-// Blocks: a signature, and then substitutions with their refinements, or `no`.
-//
-// First stand the variables whose values are to have their sorts, where there are any, and then each variable with
-// its term. Of refinements only the terms are shown. A term is written with each operator after its arguments, a
-// variable as the letter of its sort and a number, behind 9 a letter from b on, which is shown as 0, 1 and so on.
-// The summands of a flat sum stand in square brackets. Kinds have the letters after the sorts.
-//
-// The signatures are: even and odd numbers with a free sum; sets of elements with the empty set; numbers of which
-// some are zero, with a sum that has no identity; two sorts with two maximal lower ones, and a partial operator; two
-// kinds, with a commutative operator.
-const ROWS: &str =
+/// Blocks: a signature, and then substitutions with their refinements, or `no`.
+///
+/// First stand the variables whose values are to have their sorts, where there are any, and then each variable with
+/// its term. Of refinements only the terms are shown. A term is written with each operator after its arguments, a
+/// variable as the letter of its sort and a number, behind 9 a letter from b on, which is shown as 0, 1 and so on.
+/// The summands of a flat sum stand in square brackets. Kinds have the letters after the sorts.
+///
+/// The signatures are: even and odd numbers with a free sum; sets of elements with the empty set; numbers of which
+/// some are zero, with a sum that has no identity; two sorts with two maximal lower ones, and a partial operator; two
+/// kinds, with a commutative operator.
+pub const ROWS: &str =
     "A B C; A < C; B < C; f : C C -> C; f : A A -> A; f : B B -> A; f : A B -> B; f : B A -> B
 A9, C8, C7 | A9 D0 D1 f; C8 D0; C7 D1 => f(A0 A1); A0; A1 & f(B0 B1); B0; B1
 B9 | B9 D0 D0 f => no
@@ -62,8 +60,3 @@ A B; f : A B -> A; g : B B -> B [comm]; h : A -> B
 A9 | A9 C0 D0 f => f(A0 B0)
 A9, B8 | A9 C0 D0 f; B8 D0 D1 g => f(A0 B0); g(B0 B1)
 D9 | D9 C0 h D1 g => g(D1 h(C0))";
-
-#[test]
-fn substitutions_are_refined(rt: HostRuntime) -> Result<(), NoMemory> {
-    assert_table(&rt, rt.alloc(), Asked::Refined, ROWS)
-}

@@ -1,7 +1,7 @@
 //! Refines the substitutions of tests.
 ghost use Rattle.std.specs.Prelude.{IfOk, IfSome, IsTrue, IsSome};
 ghost use Rattle.fvn_terms.specs.Signature.{IsSort};
-ghost use Rattle.fvn_flat.specs.Bindings.{bound};
+ghost use Rattle.fvn_flat.specs.Bindings.{bound, BindingsFit};
 ghost use Rattle.fvn_refine.specs.Refinements.{AreBound};
 
 use fvn_flat::Subst;
@@ -48,37 +48,46 @@ fn vars_of(
     Ok(Some(all))
 }
 
-/// The pairs of a substitution.
+// The pairs of a substitution, behind those before it.
 fn push_subst(out: &mut String, sig: &Signature, s: &Subst) -> Result<(), NoMemory> {
-    let mut before = false;
+    let mut before = if out.is_empty() { "" } else { " & " };
     for i in 0..s.len() {
-        let (_, t) = s.pair(i);
-        if before {
-            out.push_str("; ")?;
-        }
-        before = true;
-        push_flat(out, sig, t)?;
+        out.push_str(before)?;
+        before = "; ";
+        push_flat(out, sig, s.pair(i).1)?;
     }
     Ok(())
 }
 
-/// The refinements of a substitution, with ampersands between them; `no` where there are none.
-pub fn shown_refined(alloc: Global, sig: &Signature, text: &str) -> Result<String, NoMemory> {
+fn shown_list(alloc: Global, sig: &Signature, list: &[Subst]) -> Result<String, NoMemory> {
     let mut out = String::new(alloc);
-    let (left, right) = text.split_once(" | ").unwrap_or(("", text));
-    if let Some(s) = subst_of(alloc, sig, right)? {
-        if let Some(xs) = vars_of(alloc, sig, &s, left)? {
-            let found = refine(alloc, sig, &s, xs.as_slice())?;
-            if found.is_empty() {
-                out.push_str("no")?;
-            }
-            for r in found.as_slice() {
-                if !out.is_empty() {
-                    out.push_str(" & ")?;
-                }
-                push_subst(&mut out, sig, r)?;
-            }
-        }
+    if list.is_empty() {
+        out.push_str("no")?;
+    }
+    for s in list {
+        push_subst(&mut out, sig, s)?;
     }
     Ok(out)
+}
+
+// The refinements of a substitution for the variables that a text names.
+fn refined(alloc: Global, sig: &Signature, s: &Subst, text: &str) -> Result<String, NoMemory>
+    requires { BindingsFit sig.now s.now }
+{
+    match vars_of(alloc, sig, s, text)? {
+        Some(xs) => {
+            let found = refine(alloc, sig, s, xs.as_slice())?;
+            shown_list(alloc, sig, found.as_slice())
+        }
+        None => Ok(String::new(alloc)),
+    }
+}
+
+/// The refinements of a substitution, with ampersands between them; `no` where there are none.
+pub fn shown_refined(alloc: Global, sig: &Signature, text: &str) -> Result<String, NoMemory> {
+    let (left, right) = text.split_once(" | ").unwrap_or(("", text));
+    match subst_of(alloc, sig, right)? {
+        Some(s) => refined(alloc, sig, &s, left),
+        None => Ok(String::new(alloc)),
+    }
 }

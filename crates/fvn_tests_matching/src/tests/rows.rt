@@ -1,35 +1,58 @@
 //! Tables of tests: a signature, and then rows, each a text with what is shown of it.
-use super::comparing::{shown_both, shown_pruned};
-use super::counting::{shown_counted, shown_large};
-use super::forms::{shown_form, shown_nested, shown_renamed};
-use super::instances::shown_instance;
-use super::matching::{shown_halves, shown_match};
+//!
+//! Of the parts of a row between tildes the second, fourth and so on stands 199 times.
+use super::comparing::{shown_both, shown_marked, shown_pruned};
+use super::matching::shown_match;
 use super::refining::shown_refined;
-use super::sorts::shown_sort;
+use super::terms::{shown_form, shown_instance, shown_renamed};
 use fvn_signature::Signature;
 use fvn_terms::NoMemory;
 use fvn_tests_samples::signature_of;
 use std::alloc::Global;
 use std::process::Abort;
+use std::thread::Threads;
 
 /// What is shown of the texts of a table.
 #[derive(Clone, Copy)]
 pub enum Asked {
-    Sort,
     Form,
-    Nested,
     Renamed,
     Instance,
     Match,
-    Halves,
-    Counted,
-    Large,
     Covers,
     Pruned,
+    Marked,
     Refined,
 }
 
-fn shown(
+const OFTEN: u32 = 199;
+
+fn push_often(out: &mut String, part: &str) -> Result<(), NoMemory> {
+    for _ in 0..OFTEN {
+        out.push_str(part)?;
+    }
+    Ok(())
+}
+
+fn push_part(out: &mut String, place: usize, part: &str) -> Result<(), NoMemory> {
+    if place % 2 == 1 {
+        return push_often(out, part);
+    }
+    out.push_str(part)?;
+    Ok(())
+}
+
+// The row that a text stands for.
+fn expanded(alloc: Global, text: &str) -> Result<String, NoMemory> {
+    let mut out = String::new(alloc);
+    for (place, part) in text.split('~').enumerate() {
+        push_part(&mut out, place, part)?;
+    }
+    Ok(out)
+}
+
+fn shown<R: Threads + Sync>(
+    rt: &R,
     alloc: Global,
     sig: &Signature,
     what: Asked,
@@ -37,50 +60,60 @@ fn shown(
     want: &str,
 ) -> Result<String, NoMemory> {
     match what {
-        Asked::Sort => shown_sort(alloc, sig, text),
         Asked::Form => shown_form(alloc, sig, text),
-        Asked::Nested => shown_nested(alloc, sig, text),
         Asked::Renamed => shown_renamed(alloc, sig, text),
         Asked::Instance => shown_instance(alloc, sig, text),
         Asked::Match => shown_match(alloc, sig, text, want),
-        Asked::Halves => shown_halves(alloc, sig, text, want),
-        Asked::Counted => shown_counted(alloc, sig, text),
-        Asked::Large => shown_large(alloc, sig, text),
         Asked::Covers => shown_both(alloc, sig, text),
         Asked::Pruned => shown_pruned(alloc, sig, text),
+        Asked::Marked => shown_marked(rt, alloc, sig, text),
         Asked::Refined => shown_refined(alloc, sig, text),
     }
 }
 
-fn assert_rows(
-    rt: &impl Abort,
+fn assert_row<R: Threads + Abort + Sync>(
+    rt: &R,
+    alloc: Global,
+    sig: &Signature,
+    what: Asked,
+    line: &str,
+) -> Result<(), NoMemory> {
+    let row = expanded(alloc, line)?;
+    let (text, want) = row.split_once(" => ").unwrap_or(("", "no row"));
+    let found = shown(rt, alloc, sig, what, text, want)?;
+    assert_eq!(rt; found.as_str(), want, "at {line}");
+    Ok(())
+}
+
+fn assert_rows<R: Threads + Abort + Sync>(
+    rt: &R,
     alloc: Global,
     sig: &Signature,
     what: Asked,
     lines: &str,
 ) -> Result<(), NoMemory> {
     for line in lines.lines() {
-        let (text, want) = line.split_once(" => ").unwrap_or((line, "no row"));
-        let found = shown(alloc, sig, what, text, want)?;
-        assert_eq!(rt; found.as_str(), want, "at {text}");
+        assert_row(rt, alloc, sig, what, line)?;
     }
     Ok(())
 }
 
-fn assert_block(rt: &impl Abort, alloc: Global, what: Asked, block: &str) -> Result<(), NoMemory> {
+fn assert_block<R: Threads + Abort + Sync>(
+    rt: &R,
+    alloc: Global,
+    what: Asked,
+    block: &str,
+) -> Result<(), NoMemory> {
     let (text, lines) = block.split_once('\n').unwrap_or((block, "no row"));
     match signature_of(alloc, text)? {
         Some(sig) => assert_rows(rt, alloc, &sig, what, lines),
-        None => {
-            assert_eq!(rt; text, "", "no signature");
-            Ok(())
-        }
+        None => Err(NoMemory),
     }
 }
 
 /// Each row of each signature's block is shown as it is wanted.
-pub fn assert_table(
-    rt: &impl Abort,
+pub fn assert_table<R: Threads + Abort + Sync>(
+    rt: &R,
     alloc: Global,
     what: Asked,
     table: &str,
