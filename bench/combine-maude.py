@@ -5,7 +5,7 @@
 
 Problems are written as in bench/combine-times.sh: each operator after its arguments, `=` between the sides of a pair, `; `
 between pairs. The times are those of the processor with Maude's printing, without its start. With a second word the values
-are printed too, as the tables of fvn_tests_combine have them. Maude is the command `maude`, or FVN_MAUDE.
+are printed too, each with its arguments behind its operator. Maude is the command `maude`, or FVN_MAUDE.
 """
 
 import os

@@ -3,7 +3,7 @@
 
     python3 oracle/partitions.py < PROBLEMS
 
-Each line of the input is a problem as the tests of `fvn_combine_nodes` write it: pairs with `=` between their sides and `; `
+Each line of the input is a problem so: pairs with `=` between their sides and `; `
 between the pairs, each operator after its arguments, sums nested to the right, and all arguments in order. The
 program adds the nodes, the sides, the subterms and the identities, and all partitions of the nodes. A partition is
 written as the number of the first node of each node's class, and partitions stand in the order in which the first
