@@ -13,7 +13,7 @@ use Rattle.fvn_cover.specs.declared.variant.Variant.{Variant}
 use Rattle.fvn_exploring.specs.declared.ends.ExpandEnd.{ExpandEnd}
 use Rattle.fvn_exploring.specs.declared.ends.ExpandEnd.TheVariants.{Whole, Steps, Size, Basis, Unifiers}
 use Rattle.fvn_exploring.specs.declared.ends.Expansion.{Expansion}
-use Rattle.fvn_narrow_children.specs.Values.{AreValuesUnder, AreSmall, AreIrreducible}
+use Rattle.fvn_narrow_children.specs.Values.{AreValuesUnder, AreSmallValues, AreIrreducible}
 
 module _ (r : Rewriting) where
   -- u is a normal form of t with no more symbols, as they are counted, than are allowed
@@ -58,7 +58,7 @@ module _ (r : Rewriting) where
     pub record IsGrown (c : Variant) : Type 0 where
       pub vars : c.vars ≡ v.vars
       pub values : AreValuesUnder r.signature v s c.subst
-      pub small : AreSmall v.vars c.subst r.bounds.size
+      pub small : AreSmallValues v.vars c.subst r.bounds.size
       pub irreducible : AreIrreducible r.signature (equations_by r) v.vars c.subst
       pub terms : AllZip IsFormOf (map (inst r.signature (value s)) members) c.terms
 
@@ -79,4 +79,6 @@ module _ (r : Rewriting) where
       pub whole : e.end ≡ Whole → All (λ s. IsDealtWith v members s e.children) unifiers
       pub cause : (e.end ≡ Whole) ⊎ ((s : Bindings) × Contains unifiers s × StopsAt (IsRaw v members s) e.end)
       -- a unifier under which a value is reducible stops nothing
-      pub kept : (e.end ≡ Whole) ⊎ ((s : Bindings) × Contains unifiers s × (StopsAt (IsRaw v members s) e.end × (IsLost v members s → ⊥)))
+      pub kept : (e.end ≡ Whole)
+          ⊎ ((s : Bindings) × Contains unifiers s
+          × (StopsAt (IsRaw v members s) e.end × (IsLost v members s → ⊥)))

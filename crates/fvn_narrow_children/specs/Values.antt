@@ -35,8 +35,8 @@ abbrev pub IsSmallAt : Bindings → ℕ → Var → Type 0
 IsSmallAt s size x = (t : FlatTerm) → bound s x ≡ Some t → counted t ≤ size
 
 -- none of these variables is
-abbrev pub AreSmall : List Var → Bindings → ℕ → Type 0
-AreSmall vars s size = All (IsSmallAt s size) vars
+abbrev pub AreSmallValues : List Var → Bindings → ℕ → Type 0
+AreSmallValues vars s size = All (IsSmallAt s size) vars
 
 module _ (d : Declarations) (equations : Equations) where
   -- whether a step leads on from the term

@@ -8,7 +8,7 @@ ghost use Rattle.fvn_flat.specs.Fits.{Fits, AllFit};
 ghost use Rattle.fvn_flat.specs.Solving.{substitution};
 ghost use Rattle.fvn_rewrite.specs.Usable.{equations_by};
 ghost use Rattle.fvn_narrow_children.specs.inner.Binding.{bound_variables};
-ghost use Rattle.fvn_narrow_children.specs.Values.{AreValuesUnder, IsLargeValue, IsLargeAt, IsSmallAt, AreSmall};
+ghost use Rattle.fvn_narrow_children.specs.Values.{AreValuesUnder, IsLargeValue, IsLargeAt, IsSmallAt, AreSmallValues};
 ghost use Rattle.fvn_narrow_children.specs.Values.{ReducibleAs, AreIrreducible, HaveReducible, AreReducibleAs};
 
 use fvn_cover::Variant;
@@ -100,7 +100,7 @@ pub(crate) fn large_value(
     size: u64,
 ) -> Result<Option<Flat>, NoMemory>
     ensures { IfOk result (λ o. MatchOption o
-        (AreSmall vars.now s.now size) (IsLargeValue vars.now s.now size)) }
+        (AreSmallValues vars.now s.now size) (IsLargeValue vars.now s.now size)) }
 {
     for x in vars {
         let found = large_at(alloc, s, *x, size)?;

@@ -6,7 +6,7 @@ use Rattle.fvn_terms.specs.declared.declarations.Declarations.{Declarations}
 use Rattle.fvn_terms.specs.Signature.{IsSort}
 use Rattle.fvn_flat.specs.Bindings.{BindingsFit}
 use Rattle.fvn_rewrite.specs.Usable.{equations_by}
-use Rattle.fvn_narrow_children.specs.Values.{AreValuesUnder, IsLargeValue, AreSmall, AreIrreducible, AreReducibleAs}
+use Rattle.fvn_narrow_children.specs.Values.{AreValuesUnder, IsLargeValue, AreSmallValues, AreIrreducible, AreReducibleAs}
 use Rattle.fvn_narrow_children.proofs.MovedFacts.{names_sorted, moved_is_lost}
 use Rattle.fvn_narrow_children.proofs.TriedFacts.{lost_is, not_lost, large_stops}
 use Rattle.fvn_narrow_children.proofs.growing.tried.Goals as goal
@@ -47,7 +47,7 @@ with_terms-requires c =
       unifier = c.requires.unifier;
       members = c.requires.members;
       values = values;
-      small = subst (AreSmall c.args.v.now.vars own) c.requires.size (subst (λ vars. AreSmall vars own c.args.size) c.as_slice-vars.ensures (rw c.in_default.is at c.in_ok-large.ensures));
+      small = subst (AreSmallValues c.args.v.now.vars own) c.requires.size (subst (λ vars. AreSmallValues vars own c.args.size) c.as_slice-vars.ensures (rw c.in_default.is at c.in_ok-large.ensures));
       kept = not_lost r c.args.v.now c.args.members.now c.args.s.now own values irreducible;
       irreducible = irreducible;
     }
