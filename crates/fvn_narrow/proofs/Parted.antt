@@ -141,7 +141,7 @@ parted_by d e equations f x form one rest target is_one is_rest one_new rest_new
   reducible = subst (λ w. IsReducible d equations (plain w)) (is ∙ ap (λ (c : Declarations). parted_sum c f form x one rest) same) reducible;
 }
 
-as_variable : (t : FlatTerm) (x : Var) → variable_of t ≡ Some x → t ≡ fvar x
+pub as_variable : (t : FlatTerm) (x : Var) → variable_of t ≡ Some x → t ≡ fvar x
 as_variable (fvar y) x e = cc
 as_variable (fapp g joined ts) x e = cc
 

@@ -22,7 +22,7 @@ use fvn_terms::{NoMemory, OpId, Rank, SortId, Var};
 use std::alloc::Global;
 
 // Whether the operator is associative.
-fn is_associative(sig: &Signature, f: OpId) -> bool
+pub(crate) fn is_associative(sig: &Signature, f: OpId) -> bool
     ensures { IsTrue result → IsAssociative (axioms sig.now f) }
 {
     sig.axioms(f).is_sum()
@@ -57,7 +57,7 @@ fn rank_keeps(sig: &Signature, rank: &Rank, s: SortId) -> bool
 }
 
 // Whether each sum of the operator that has the sort has only summands of the sort.
-fn summands_keep(sig: &Signature, f: OpId, s: SortId) -> bool
+pub(crate) fn summands_keep(sig: &Signature, f: OpId, s: SortId) -> bool
     requires { IsAssociative (axioms sig.now f) }
     ensures { IsTrue result → SummandsKeep sig.now f s }
 {
@@ -243,14 +243,14 @@ fn is_parted(
 }
 
 // Whether the operator has no identity.
-fn has_no_identity(sig: &Signature, f: OpId) -> bool
+pub(crate) fn has_no_identity(sig: &Signature, f: OpId) -> bool
     ensures { IsTrue result → identity (axioms sig.now f) ≡ None }
 {
     sig.identity(f).is_none()
 }
 
 // The two arguments of a form, where it has two.
-fn two_of(t: &Flat) -> Option<(&Flat, &Flat)>
+pub(crate) fn two_of(t: &Flat) -> Option<(&Flat, &Flat)>
     ensures { IfSome result (λ p. args_of t.now ≡ p.0.now ∷ p.1.now ∷ []) }
 {
     let ts = t.args();
