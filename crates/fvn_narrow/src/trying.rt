@@ -53,7 +53,7 @@ pub(crate) fn is_met<S: Solves>(
     Ok(met)
 }
 
-// Whether a rule is passed over at a form: where those that are met in pairs are, this is one, and where they are not,
+// Whether a rule is passed over at a form: where those that are met in pairs are, this is one; where they are not,
 // another one serves in its place.
 fn is_passed_over<S: Solves>(
     tools: &Tools<'_, '_, S>,
@@ -102,8 +102,8 @@ fn by_rule_unless<S: Solves>(
     Ok(e)
 }
 
-// The children at a part by these rules, up to the first that stops. Where rules that are met in pairs are not passed over,
-// those are in whose place another one serves.
+// The children at a part by these rules, up to the first that stops. Where those that are met in pairs are not passed
+// over, those are in whose place another one serves.
 pub(crate) fn by_rules<S: Solves>(
     tools: &Tools<'_, '_, S>,
     alloc: Global,

@@ -17,7 +17,7 @@ use Rattle.fvn_lifting.specs.Pairs.{SummandsKeep}
 abbrev pub IsLastOfThree : FlatTerm → List FlatTerm → Type 0
 IsLastOfThree t ts = (length ts ≡ 3) × (slice_get ts 2 ≡ Some t)
 
--- The first form has the variable, and one argument more, in which it does not stand; the second has two arguments in the
+-- The first form has the variable and another argument, in which it does not stand; the second has two arguments in the
 -- variable's place.
 pub record HasTwoFor (left other : FlatTerm) (x : Var) : Type 0 where
   pub last : FlatTerm
