@@ -130,7 +130,7 @@ impl Kept {
         Ok(r)
     }
 
-    // Whether this one covers the other; the marks alone are looked at first, since they refuse most.
+    // Whether this one covers the other; marks and sorts alone are looked at first, since they refuse most.
     #[inline(always)]
     pub(crate) fn is_covering(
         &self,
@@ -145,7 +145,7 @@ impl Kept {
         requires that { IsFlatVariant sig.now other.now }
         ensures { IfOk result (λ r. IsTrue r ↔ CoversVariant sig.now self.now other.now) }
     {
-        if !self.marks.may_cover(out, &other.marks) {
+        if !self.may_cover(sig, out, other) {
             return Ok(false);
         }
         let r = self.is_covering_shown(alloc, sig, out, other)?;
@@ -153,6 +153,7 @@ impl Kept {
     }
 
     // Whether the marks, and the sorts of values that are variables, leave it open that this one covers the other.
+    #[inline(always)]
     pub(crate) fn may_cover(&self, sig: &Signature, out: Unkept, other: &Kept) -> bool
         requires out { AreUnkept sig.now out }
         requires alike { AreAlike self.now other.now }

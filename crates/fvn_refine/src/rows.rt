@@ -53,7 +53,7 @@ fn without_below(
     ensures { IfOk result (λ kept. kept.items ≡ filter (λ r. not
         (is_row_below sig.now r row.now)) rows.items) }
 {
-    let mut kept = Vec::new(alloc);
+    let mut kept = Vec::with_capacity(alloc, rows.len().saturating_add(1))?;
     for r in rows {
         if is_row_below(sig, r.as_slice(), row) {
             continue;
