@@ -59,6 +59,9 @@ fn looked_through(alloc: Global, sig: &Signature, list: &[Kept], v: &Kept) -> Re
     let out = Unkept::of(sig);
     let mut open = false;
     for k in list {
+        if k.is_apart_from(sig, out, v) {
+            continue;
+        }
         if k.is_covering(alloc, sig, out, v)? {
             return Ok(Look {
                 covered: true,
