@@ -19,6 +19,8 @@ mod SummedFinding
 mod Weights
 mod WholeSteps
 mod OnePiece
+mod HighSums
+mod Hopeless
 mod Rooms
 mod Matchers
 mod TwoLists

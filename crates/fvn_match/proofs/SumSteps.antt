@@ -98,7 +98,7 @@ module _ (d : Declarations) (f : OpId) (c : Values) where
       let b = count_summands-replicate q k p in
       omega arith
 
-  length_summands-append : (ps us : List FlatTerm) → length (summands_of (ps ++ us)) ≡ length (summands_of ps) + length (summands_of us)
+  pub length_summands-append : (ps us : List FlatTerm) → length (summands_of (ps ++ us)) ≡ length (summands_of ps) + length (summands_of us)
   length_summands-append [] us = omega arith
   length_summands-append (p ∷ ps) us =
       let a = length-append (parts d f (inst d c p)) (summands_of (ps ++ us)) in

@@ -57,7 +57,7 @@ module _ (d : Declarations) (b : Bindings) where
         (subst (λ ts. AllZip (IsPair d) [] (references ts)) (sym u.targets) tt);
   }
 
-  untouched_asks : (a : Apart) → IsUntouched a → (c : Values) → ApartAsks d b a c ↔ Agrees b c
+  pub untouched_asks : (a : Apart) → IsUntouched a → (c : Values) → ApartAsks d b a c ↔ Agrees b c
   untouched_asks a u c =
       subst (λ vs. (Agrees (with_bindings b vs) c × AllMake d (references a.patterns.items) (references a.targets.items) c) ↔ Agrees b c) (sym u.values)
       (subst (λ ps. (Agrees b c × AllMake d (references ps) (references a.targets.items) c) ↔ Agrees b c) (sym u.patterns)

@@ -23,13 +23,14 @@ ghost use Rattle.fvn_match.specs.inner.Searching.{
 };
 
 use crate::answers::answer;
-use crate::apart::untouched;
+use crate::apart::{may_make, untouched};
 use crate::choices::{advanced, quotients, reduced, zeros};
 use crate::goals::{Bound, Goals, RefPairs, SumGoal, Sums, Values};
 use crate::known::{has_known, without_known};
 use crate::pairing::{has_sort_of, is_sorted_above};
+use crate::refusing::is_hopeless;
 use crate::summands::{after, alike, count_pieces, is_headed, reversed, summands};
-use crate::wholes::{are_zero, is_short, room, whole};
+use crate::wholes::{are_zero, room, whole};
 use fvn_flat::{Flat, Subst};
 use fvn_signature::Signature;
 use fvn_terms::{NoMemory, OpId, Var};
@@ -275,7 +276,7 @@ impl Search<'_> {
         requires state { SumStateFits self.now.sig.now goal.now sums.now bound.now }
         ensures { IfOk result (SearchesSum self.now goal.now sums.now bound.now) }
     {
-        if is_short(self.sig, goal) {
+        if is_hopeless(self.sig, goal) {
             return Ok(None);
         }
         let seen = bound.count();
@@ -387,6 +388,10 @@ impl Search<'_> {
             None => return Ok(None),
             Some(t) => t,
         };
+        let may = may_make(self.alloc, self.sig, &*bound, &*p, &whole)?;
+        if !may {
+            return Ok(None);
+        }
         let left = reduced(self.alloc, k, goal.left, chosen)?;
         let others = after(goal.patterns, k);
         let smaller = SumGoal {

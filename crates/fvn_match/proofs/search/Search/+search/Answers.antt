@@ -23,8 +23,8 @@ use Rattle.fvn_match.specs.inner.Apart.{IsTakenApart}
 use Rattle.fvn_match.proofs.TakingApart.{untouched_fits, as_many_left, left_pairs, left_values, lighter_left, found_never, found_apart, refs_parted, refs_weight, found_refs}
 use Rattle.fvn_match.proofs.PairFinding.{zip_long, two_is, one_more_candidate, if_found_bound, refused_sort, refused_above, found_known, refused_known, found_straight_of, found_across_of, crossing_pairs, found_values, found_no_pairs, refused_unheaded, pairs_of_args, as_many_args, found_free, crossing_args, two_of_patterns, two_of_targets, found_commutative}
 use Rattle.fvn_match.proofs.SumFitting.{started_fits, smaller_fits}
-use Rattle.fvn_match.proofs.SumFinding.{IsTried, no_patterns, group_of, group_within, choice_within, as_long, length_quotients, each_itself, refused_short, refused_closed, found_open, open_fits, open_weight, refused_left, found_taken, found_only, found_choices, tried_none, found_choice, tried_one, tried_all}
-use Rattle.fvn_match.proofs.ChoiceFinding.{refused_whole, whole_pair, left_fits, found_whole}
+use Rattle.fvn_match.proofs.SumFinding.{IsTried, no_patterns, group_of, group_within, choice_within, as_long, length_quotients, each_itself, refused_hopeless, refused_closed, found_open, open_fits, open_weight, refused_left, found_taken, found_only, found_choices, tried_none, found_choice, tried_one, tried_all}
+use Rattle.fvn_match.proofs.ChoiceFinding.{refused_whole, refused_made, whole_pair, left_fits, found_whole}
 use Rattle.fvn_match.proofs.SummedFinding.{found_summed}
 use Rattle.fvn_match.proofs.WholeSteps.{not_zero}
 use Rattle.fvn_match.proofs.Weights.{weight_args, weight_of-reverse, weight_of-group}
@@ -338,12 +338,12 @@ summed-returns t c =
     (bindings_of c.args.bound.now) c.args.self.now.vars.now c.args.rest.now _ c.args.sums.now c.solve.result c.solve.ensures (λ v. (λ h. h, λ h. h))
 
 -- a sum
-pub sum-is_short-requires : goal.sum-is_short-requires
-sum-is_short-requires t c = c.requires.state.sum_fits
+pub sum-is_hopeless-requires : goal.sum-is_hopeless-requires
+sum-is_hopeless-requires t c = c.requires.state.sum_fits
 
-pub sum-returns-then-is_short : goal.sum-returns-then-is_short
-sum-returns-then-is_short t c =
-    refused_short c.args.self.now.sig.now (bindings_of c.args.bound.now) c.args.self.now.vars.now c.args.goal.now c.requires.state.sum_fits (SumsHold c.args.self.now.sig.now c.args.sums.now) (c.is_short.ensures c.if-is_short.true)
+pub sum-returns-then-is_hopeless : goal.sum-returns-then-is_hopeless
+sum-returns-then-is_hopeless t c =
+    refused_hopeless c.args.self.now.sig.now (bindings_of c.args.bound.now) c.args.self.now.vars.now c.args.goal.now c.requires.state.sum_fits (SumsHold c.args.self.now.sig.now c.args.sums.now) (c.is_hopeless.ensures c.if-is_hopeless.true)
 
 pub sum-pick-requires : goal.sum-pick-requires
 sum-pick-requires t c = (
@@ -598,6 +598,24 @@ choose-returns-in-None t c =
     let d = c.args.self.now.sig.now in
     let w = subst (IsWhole d c.args.goal.now c.args.chosen.now) c.in-None.is c.in_ok-whole.ensures in
     refused_whole d c.args.goal.now c.requires.state.sum_fits c.args.chosen.now c.requires.long (bindings_of c.args.bound.now) c.args.self.now.vars.now c.args.p.now c.args.k c.args.sums.now w
+
+pub choose-may_make-requires-clause-pair : goal.choose-may_make-requires-clause-pair
+choose-may_make-requires-clause-pair t c =
+    let d = c.args.self.now.sig.now in
+    let fit = c.requires.state.sum_fits in
+    let w = subst (IsWhole d c.args.goal.now c.args.chosen.now) c.in-Some.is c.in_ok-whole.ensures in
+    let flat_p = (subst (AllByRecursion (IsFlatOf d (kind d fit.rank.result))) c.requires.group.first fit.patterns).0 in
+    whole_pair d c.args.goal.now fit c.args.chosen.now c.requires.long (bindings_of c.args.bound.now) c.args.self.now.vars.now c.args.p.now c.args.k c.args.sums.now c.in-Some.t w c.recall_good.ensures.fits flat_p
+
+pub choose-may_make-requires-clause-values : goal.choose-may_make-requires-clause-values
+choose-may_make-requires-clause-values t c = c.requires.state.values
+
+pub choose-returns-then-not-may : goal.choose-returns-then-not-may
+choose-returns-then-not-may t c =
+    let d = c.args.self.now.sig.now in
+    let w = subst (IsWhole d c.args.goal.now c.args.chosen.now) c.in-Some.is c.in_ok-whole.ensures in
+    refused_made d c.args.goal.now c.requires.state.sum_fits c.args.chosen.now c.requires.long (bindings_of c.args.bound.now) c.args.self.now.vars.now c.args.p.now c.args.k c.args.sums.now c.in-Some.t w
+    (c.in_ok-may.ensures c.if-not-may.true)
 
 pub choose-pair-requires : goal.choose-pair-requires
 choose-pair-requires t c =

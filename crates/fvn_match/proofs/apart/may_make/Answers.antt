@@ -1,0 +1,11 @@
+-- A pair that is refused is made by nothing.
+use Rattle.fvn_match.specs.inner.Goals.{bindings_of}
+use Rattle.fvn_match.proofs.TakingApart.{untouched_fits, untouched_asks}
+use Rattle.fvn_match.proofs.apart.may_make.Goals as goal
+
+pub take-may-requires-clause-fits : goal.take-may-requires-clause-fits
+take-may-requires-clause-fits c = untouched_fits c.args.sig.now (bindings_of c.args.bound.now) c.requires.values c.untouched-parts.result c.untouched-parts.ensures
+
+pub returns-in_ok-may : goal.returns-in_ok-may
+returns-in_ok-may c = λ no v k agrees is.
+    (rw no at c.in_ok-may.ensures) v k is ((untouched_asks c.args.sig.now (bindings_of c.args.bound.now) c.untouched-parts.result c.untouched-parts.ensures v).1 agrees)
