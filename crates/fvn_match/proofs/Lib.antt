@@ -21,6 +21,7 @@ mod WholeSteps
 mod OnePiece
 mod HighSums
 mod Hopeless
+mod Copies
 mod Rooms
 mod Matchers
 mod TwoLists

@@ -161,7 +161,8 @@ impl<'a> Apart<'a> {
     }
 }
 
-// Whether what was bound leaves it open that the pattern makes the target.
+// Whether what was bound leaves it open that the pattern makes the target, which is asked where a free operator heads the
+// pattern.
 pub(crate) fn may_make(
     alloc: Global,
     sig: &Signature,
@@ -171,8 +172,17 @@ pub(crate) fn may_make(
 ) -> Result<bool, NoMemory>
     requires pair { IsPair sig.now p.now t.now }
     requires values { IsCandidate sig.now (value (bindings_of bound.now)) }
-    ensures { IfOk result (λ may. may ≡ false → NeverMakes sig.now (bindings_of bound.now) p.now t.now) }
+    ensures { IfOk result (λ may. may ≡ false →
+        NeverMakes sig.now (bindings_of bound.now) p.now t.now) }
 {
+    let f = match p.head() {
+        None => return Ok(true),
+        Some(f) => f,
+    };
+    let free = is_free(sig, f);
+    if !free {
+        return Ok(true);
+    }
     let mut parts = untouched(alloc);
     let may = parts.take(sig, bound, p, t)?;
     Ok(may)

@@ -1,13 +1,15 @@
 //! Sums that no values make, as counting tells before anything is chosen.
-ghost use Rattle.std.specs.Prelude.{◌≡◌, ◌↔◌, ◌≤◌, ◌<◌, length, IsTrue, if◌then◌else◌};
+ghost use Rattle.std.specs.Prelude.{◌≡◌, ◌↔◌, ◌*◌, ◌^◌, ◌≤◌, ◌<◌, length, sum, IsTrue, if◌then◌else◌};
 ghost use Rattle.std.specs.List.{AllByRecursion};
 ghost use Rattle.fvn_flat.specs.Fits.{Fits};
+ghost use Rattle.fvn_match.specs.inner.Choices.{quotients};
 ghost use Rattle.fvn_match.specs.inner.Summands.{references};
 ghost use Rattle.fvn_match.specs.inner.Goals.{SumFits, patterns_of, pieces_of};
 ghost use Rattle.fvn_match.specs.inner.Refusing.{
   IsMultiple,
   AreMultiples,
   IsUneven,
+  HaveCopies,
   IsHopeless,
   is_low,
   low_in,
@@ -80,6 +82,69 @@ fn is_uneven(goal: &SumGoal<'_>) -> bool
         return false;
     }
     has_remainder(goal.left, k)
+}
+
+// One where a number is another or above it, else none.
+fn one_from(m: usize, k: usize) -> usize
+    ensures { k * result ≤ m }
+{
+    if m < k { 0 } else { 1 }
+}
+
+// Whether more patterns than so many stand side by side k times, or more often.
+fn have_copies(patterns: &[&Flat], k: usize, many: usize) -> bool
+    ensures { IsTrue result → HaveCopies k many (references patterns.now) }
+{
+    let mut left = many;
+    let mut rest = patterns;
+    loop {
+        if rest.is_empty() {
+            return false;
+        }
+        let m = alike(rest);
+        let one = one_from(m, k);
+        if left < one {
+            return true;
+        }
+        left -= one;
+        let others = after(rest, m);
+        rest = others;
+    }
+}
+
+// How often all numbers hold another.
+fn shares(ns: &[usize], k: usize) -> usize
+    requires some { 1 ≤ k }
+    requires small { sum ns.now < 2 ^ 64 }
+    ensures { result ≡ sum (quotients k ns.now) }
+{
+    let mut n: usize = 0;
+    for i in 0..ns.len() {
+        let share = ns[i] / k;
+        n += share;
+    }
+    n
+}
+
+// Whether the first pattern and others that stand there as often need more pieces of which so many are left than there are.
+fn is_short_of_copies(sig: &Signature, goal: &SumGoal<'_>) -> bool
+    requires { SumFits sig.now goal.now }
+    ensures { IsTrue result → IsHopeless sig.now goal.now }
+{
+    if goal.patterns.is_empty() {
+        return false;
+    }
+    let k = alike(goal.patterns);
+    if k == 1 {
+        return false;
+    }
+    match sig.identity(goal.op) {
+        Some(_) => false,
+        None => {
+            let have = shares(goal.left, k);
+            have_copies(goal.patterns, k, have)
+        }
+    }
 }
 
 // Whether there are more pieces than patterns, each of which takes one at most.
@@ -214,6 +279,10 @@ pub(crate) fn is_hopeless(sig: &Signature, goal: &SumGoal<'_>) -> bool
     }
     let uneven = is_uneven(goal);
     if uneven {
+        return true;
+    }
+    let few = is_short_of_copies(sig, goal);
+    if few {
         return true;
     }
     let crowded = is_crowded(sig, goal);

@@ -1,5 +1,5 @@
 -- Sums that no candidate makes, as counting tells.
-use Rattle.std.specs.Prelude.{◌≡◌, ℕ, ◌+◌, ◌*◌, Bool, if◌then◌else◌, List, [], ◌∷◌, map, Contains}
+use Rattle.std.specs.Prelude.{◌≡◌, ◌≤◌, ◌<◌, ℕ, ◌+◌, ◌*◌, Bool, if◌then◌else◌, List, [], ◌∷◌, length, map, Contains}
 use Rattle.std.specs.List.{AllByRecursion}
 use Rattle.fvn_terms.specs.declared.plain.OpId.{OpId}
 use Rattle.fvn_terms.specs.declared.plain.SortId.{SortId}
@@ -33,6 +33,14 @@ pub record IsUneven (goal : SumGoal) : Type 0 where
   pub times : ℕ
   pub patterns : AreMultiples times (patterns_of goal)
   pub left : AllByRecursion (IsMultiple times) goal.left.now → ⊥
+
+-- more than n patterns of which k copies have their summands among those of all patterns, whatever the variables are
+pub record HaveCopies (k n : ℕ) (ps : List FlatTerm) : Type 0 where
+  pub some : List FlatTerm
+  pub more : n < length some
+  pub among :
+      (d : Declarations) (f : OpId) (c : Values) (q : FlatTerm) →
+      k * count q (all_parts d f (map (inst d c) some)) ≤ count q (all_parts d f (map (inst d c) ps))
 
 module _ (d : Declarations) where
   -- no candidate does what the sum asks
