@@ -98,10 +98,10 @@ quotients-past k ns i h = ap (λ ms. std_sum (quotients k ms)) (drop_all i ns h)
 -- too few pieces of which k are left
 module _ (d : Declarations) (goal : SumGoal) (fit : SumFits d goal) (lasting : identity (axioms d goal.op) ≡ None) (k : ℕ) (some : 1 ≤ k) where
   pub copies_hopeless : HaveCopies k (std_sum (quotients k goal.left.now)) (patterns_of goal) → IsHopeless d goal
-  copies_hopeless have c candidate h =
-      let a = as_many d goal.op c candidate.flat.settled lasting have.some in
+  copies_hopeless few c candidate h =
+      let a = as_many d goal.op c candidate.flat.settled lasting few.some in
       let b = sum_at_most (numbers_in ts own) (quotients k ns) (fits_numbers k some own ts ns long fit.distinct (λ q more. among q)) in
-      omega (arith, have.more, a, b, measured)
+      omega (arith, few.more, a, b, measured)
     where
       ts : List FlatTerm
       ts = pieces_of goal
@@ -110,24 +110,24 @@ module _ (d : Declarations) (goal : SumGoal) (fit : SumFits d goal) (lasting : i
       ns = goal.left.now
 
       own : List FlatTerm
-      own = summands_of d goal.op c have.some
+      own = summands_of d goal.op c few.some
 
       long : length goal.left.now ≡ length (pieces_of goal)
       long = fit.long ∙ sym (length_references goal.pieces.now)
 
-      among : (q : FlatTerm) → k * count q (summands_of d goal.op c have.some) ≤ tally q (pieces_of goal) goal.left.now
-      among q = let a = have.among d goal.op c q in let b = h q in omega arith
+      among : (q : FlatTerm) → k * count q (summands_of d goal.op c few.some) ≤ tally q (pieces_of goal) goal.left.now
+      among q = let a = few.among d goal.op c q in let b = h q in omega arith
 
-      none : (q : FlatTerm) → count q (pieces_of goal) ≡ 0 → count q (summands_of d goal.op c have.some) ≡ 0
-      none q e = go (count q (summands_of d goal.op c have.some)) k some (let a = among q in let b = tally_elsewhere q (pieces_of goal) goal.left.now e in let g : k * count q (summands_of d goal.op c have.some) ≤ 0 = omega arith in g)
+      none : (q : FlatTerm) → count q (pieces_of goal) ≡ 0 → count q (summands_of d goal.op c few.some) ≡ 0
+      none q e = go (count q (summands_of d goal.op c few.some)) k some (let a = among q in let b = tally_elsewhere q (pieces_of goal) goal.left.now e in let g : k * count q (summands_of d goal.op c few.some) ≤ 0 = omega arith in g)
         where
           go : (n m : ℕ) → 1 ≤ m → m * n ≤ 0 → n ≡ 0
           go zero m a b = refl
           go (suc n) zero a b = absurd (omega arith)
           go (suc n) (suc m) a b = absurd (omega arith)
 
-      measured : std_sum (numbers_in (pieces_of goal) (summands_of d goal.op c have.some)) ≡ length (summands_of d goal.op c have.some)
+      measured : std_sum (numbers_in (pieces_of goal) (summands_of d goal.op c few.some)) ≡ length (summands_of d goal.op c few.some)
       measured =
-          sym (length_repeated (pieces_of goal) (numbers_in (pieces_of goal) (summands_of d goal.op c have.some)) (length_numbers (summands_of d goal.op c have.some) (pieces_of goal)))
-          ∙ same_length (repeated (pieces_of goal) (numbers_in (pieces_of goal) (summands_of d goal.op c have.some))) (summands_of d goal.op c have.some)
-          (λ q. count_repeated q (pieces_of goal) (numbers_in (pieces_of goal) (summands_of d goal.op c have.some)) ∙ numbers_make_up (summands_of d goal.op c have.some) (pieces_of goal) fit.distinct none q)
+          sym (length_repeated (pieces_of goal) (numbers_in (pieces_of goal) (summands_of d goal.op c few.some)) (length_numbers (summands_of d goal.op c few.some) (pieces_of goal)))
+          ∙ same_length (repeated (pieces_of goal) (numbers_in (pieces_of goal) (summands_of d goal.op c few.some))) (summands_of d goal.op c few.some)
+          (λ q. count_repeated q (pieces_of goal) (numbers_in (pieces_of goal) (summands_of d goal.op c few.some)) ∙ numbers_make_up (summands_of d goal.op c few.some) (pieces_of goal) fit.distinct none q)

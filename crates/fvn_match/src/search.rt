@@ -25,9 +25,9 @@ ghost use Rattle.fvn_match.specs.inner.Searching.{
 use crate::answers::answer;
 use crate::apart::{may_make, untouched};
 use crate::choices::{advanced, quotients, reduced, zeros};
-use crate::goals::{Bound, Goals, RefPairs, SumGoal, Sums, Values};
+use crate::goals::{Bound, Goals, Latest, Pairs, SumGoal, Sums};
 use crate::known::{has_known, without_known};
-use crate::pairing::{has_sort_of, is_sorted_above};
+use crate::pairing::{has_sort_of, lacks_sort};
 use crate::refusing::is_hopeless;
 use crate::summands::{after, alike, count_pieces, is_headed, reversed, summands};
 use crate::wholes::{are_zero, room, whole};
@@ -60,8 +60,8 @@ impl Search<'_> {
         match goals {
             Goals::Pair(p, t, rest) => self.pair(&**p, &**t, &**rest, &*sums, &*bound),
             Goals::Lists(ps, ts, rest) => self.lists(*ps, *ts, &**rest, &*sums, &*bound),
-            Goals::Refs(pairs, rest) => {
-                self.refs(pairs.patterns, pairs.targets, &**rest, &*sums, &*bound)
+            Goals::Pairs(pairs, rest) => {
+                self.one_by_one(pairs.patterns, pairs.targets, &**rest, &*sums, &*bound)
             }
             Goals::Done => match sums {
                 Sums::WithSum(goal, rest) => self.sum(&*goal, &**rest, &*bound),
@@ -96,16 +96,16 @@ impl Search<'_> {
         }
         let patterns = parts.patterns.as_slice();
         let targets = parts.targets.as_slice();
-        let values = Values {
+        let values = Latest {
             pairs: parts.values.as_slice(),
         };
         let more = Bound::Several(values, &*bound);
-        self.refs(patterns, targets, &*rest, &*sums, &more)
+        self.one_by_one(patterns, targets, &*rest, &*sums, &more)
     }
 
     // The same of references, pair by pair.
     #[cycle(search)]
-    fn refs<'x>(
+    fn one_by_one<'x>(
         &self,
         ps: &'x [&'x Flat],
         ts: &'x [&'x Flat],
@@ -123,11 +123,11 @@ impl Search<'_> {
         if ps.is_empty() {
             return self.solve(&*rest, &*sums, &*bound);
         }
-        let others = RefPairs {
+        let others = Pairs {
             patterns: &ps[1..],
             targets: &ts[1..],
         };
-        let later = Goals::Refs(others, &*rest);
+        let later = Goals::Pairs(others, &*rest);
         self.pair(ps[0], ts[0], &later, &*sums, &*bound)
     }
 
@@ -248,7 +248,7 @@ impl Search<'_> {
         ensures { IfOk result (SearchesPair self.now p.now t.now rest.now sums.now bound.now) }
     {
         self.sig.recall_good();
-        if is_sorted_above(self.sig, p, t) {
+        if lacks_sort(self.sig, p, t) {
             return Ok(None);
         }
         let patterns = reversed(self.alloc, p.args())?;
