@@ -99,19 +99,13 @@ quotients-past k ns i h = ap (λ ms. std_sum (quotients k ms)) (drop_all i ns h)
 module _ (d : Declarations) (goal : SumGoal) (fit : SumFits d goal) (lasting : identity (axioms d goal.op) ≡ None) (k : ℕ) (some : 1 ≤ k) where
   pub copies_hopeless : HaveCopies k (std_sum (quotients k goal.left.now)) (patterns_of goal) → IsHopeless d goal
   copies_hopeless few c candidate h =
+      let ts = pieces_of goal in
+      let ns = goal.left.now in
+      let own = summands_of d goal.op c few.some in
       let a = as_many d goal.op c candidate.flat.settled lasting few.some in
       let b = sum_at_most (numbers_in ts own) (quotients k ns) (fits_numbers k some own ts ns long fit.distinct (λ q more. among q)) in
       omega (arith, few.more, a, b, measured)
     where
-      ts : List FlatTerm
-      ts = pieces_of goal
-
-      ns : List ℕ
-      ns = goal.left.now
-
-      own : List FlatTerm
-      own = summands_of d goal.op c few.some
-
       long : length goal.left.now ≡ length (pieces_of goal)
       long = fit.long ∙ sym (length_references goal.pieces.now)
 

@@ -47,7 +47,7 @@ fn has_remainder(ns: &[usize], k: usize) -> bool
 }
 
 // Whether equal patterns stand side by side so many times some number.
-fn are_multiples(patterns: &[&Flat], k: usize) -> bool
+fn are_multiples<'a>(patterns: &'a [&'a Flat], k: usize) -> bool
     requires { 1 ≤ k }
     ensures { IsTrue result → AreMultiples k (references patterns.now) }
 {
@@ -66,7 +66,7 @@ fn are_multiples(patterns: &[&Flat], k: usize) -> bool
     }
 }
 
-// Whether all patterns stand there so often as the first one, or twice as often or more, and of some piece not so many are left.
+// Whether each pattern stands there a multiple of the times of the first one, and what is left of some piece is none.
 fn is_uneven(goal: &SumGoal<'_>) -> bool
     ensures { IsTrue result → IsUneven goal.now }
 {
@@ -92,7 +92,7 @@ fn one_from(m: usize, k: usize) -> usize
 }
 
 // Whether more patterns than so many stand side by side k times, or more often.
-fn have_copies(patterns: &[&Flat], k: usize, many: usize) -> bool
+fn have_copies<'a>(patterns: &'a [&'a Flat], k: usize, many: usize) -> bool
     ensures { IsTrue result → HaveCopies k many (references patterns.now) }
 {
     let mut left = many;
@@ -126,7 +126,7 @@ fn shares(ns: &[usize], k: usize) -> usize
     n
 }
 
-// Whether the first pattern and others that stand there as often need more pieces of which so many are left than there are.
+// Whether more patterns stand there as often as the first one than there are pieces of which so many are left.
 fn is_short_of_copies(sig: &Signature, goal: &SumGoal<'_>) -> bool
     requires { SumFits sig.now goal.now }
     ensures { IsTrue result → IsHopeless sig.now goal.now }
