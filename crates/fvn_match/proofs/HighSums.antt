@@ -25,9 +25,9 @@ use Rattle.fvn_forms.proofs.LeastSort.{sort_in-kind}
 use Rattle.fvn_match.specs.inner.Refusing.{GivesNone, IsSummand}
 use Rattle.fvn_match.specs.inner.Searching.{IsOnePiece}
 
--- the first ranks of the operator give none
-abbrev pub FirstGiveNone : Declarations → OpId → SortId → ℕ → Type 0
-FirstGiveNone d f s n = (k : ℕ) (r : Rank) → k < n → slice_get (ranks_of d f) k ≡ Some r → AtOrBelow d r.result s → ⊥
+-- what holds of the first ranks of the operator
+abbrev pub FirstRanks : Declarations → OpId → (Rank → Type 0) → ℕ → Type 0
+FirstRanks d f P n = (k : ℕ) (r : Rank) → k < n → slice_get (ranks_of d f) k ≡ Some r → P r
 
 one_rank : (a b : Rank) → Some a ≡ Some b → a ≡ b
 one_rank a b e = cc
@@ -39,19 +39,19 @@ less_or_last k i h = go (nat_lt k i) refl
     go true e = inl (ltb-true k i e)
     go false e = let low : i ≤ k = ltb-false k i e in inr (omega arith)
 
-pub none_first : (d : Declarations) (f : OpId) (s : SortId) → FirstGiveNone d f s 0
-none_first d f s k r low e = absurd (omega (arith, low))
+pub none_first : (d : Declarations) (f : OpId) (P : Rank → Type 0) → FirstRanks d f P 0
+none_first d f P k r low e = absurd (omega (arith, low))
 
-pub one_more : (d : Declarations) (f : OpId) (s : SortId) (i : ℕ) → FirstGiveNone d f s i → (t : Rank) → slice_get (ranks_of d f) i ≡ Some t → (AtOrBelow d t.result s → ⊥) → FirstGiveNone d f s (i + 1)
-one_more d f s i before t at never k r low e = elim (less_or_last k i low) [
+pub one_more : (d : Declarations) (f : OpId) (P : Rank → Type 0) (i : ℕ) → FirstRanks d f P i → (t : Rank) → slice_get (ranks_of d f) i ≡ Some t → P t → FirstRanks d f P (i + 1)
+one_more d f P i before t at holds k r low e = elim (less_or_last k i low) [
   | inl l ↦ before k r l e
-  | inr q ↦ subst (λ u. AtOrBelow d u.result s → ⊥) (one_rank t r (sym at ∙ subst (λ n. slice_get (ranks_of d f) n ≡ Some r) q e)) never
+  | inr q ↦ subst P (one_rank t r (sym at ∙ subst (λ n. slice_get (ranks_of d f) n ≡ Some r) q e)) holds
 ]
 
-pub all_give_none : (d : Declarations) (f : OpId) (s : SortId) (n : ℕ) → length (ranks_of d f) ≤ n → FirstGiveNone d f s n → GivesNone d f s
-all_give_none d f s n enough never r at =
+pub all_ranks : (d : Declarations) (f : OpId) (P : Rank → Type 0) (n : ℕ) → length (ranks_of d f) ≤ n → FirstRanks d f P n → (r : Rank) → Contains (ranks_of d f) r → P r
+all_ranks d f P n enough holds r at =
     let read = slice_get_read (ranks_of d f) (length (ranks_of d f)) at.0 r refl at.1 (sym at.2) in
-    never at.0 r (let within = at.1 in omega (arith, within, enough)) read
+    holds at.0 r (let within = at.1 in omega (arith, within, enough)) read
 
 module _ (d : Declarations) (good : IsGood d) (f : OpId) (assoc : IsAssociative (axioms d f)) where
   -- some rank gives the sort
@@ -65,7 +65,7 @@ module _ (d : Declarations) (good : IsGood d) (f : OpId) (assoc : IsAssociative 
   given a b (c ∷ l) p q ps = given (result_of_two d f a b) c l (result-pair d good f a b assoc p q) ps.0 ps.1
 
   module _ (r : Rank) (listed : Contains (declared d f).ranks r) where
-    sorts_fit : (l : List FlatTerm) → AllByRecursion (Settled d) l → AllByRecursion (λ p. HasKind d (plain p) (kind d r.result)) l → AllByRecursion (λ t. IsOfKind d f (least_sort d t)) l
+    pub sorts_fit : (l : List FlatTerm) → AllByRecursion (Settled d) l → AllByRecursion (λ p. HasKind d (plain p) (kind d r.result)) l → AllByRecursion (λ t. IsOfKind d f (least_sort d t)) l
     sorts_fit [] s h = tt
     sorts_fit (t ∷ l) s h = (record { rank = r; listed = listed; kind_is = sort_in-kind d good (λ x. x.sort) (λ x i. refl) t s.0 (kind d r.result) h.0 }, sorts_fit l s.1 h.1)
 

@@ -34,13 +34,13 @@ use Rattle.fvn_match.specs.inner.Summands.{IsRun}
 use Rattle.fvn_match.specs.inner.Candidates.{Values, IsCandidate}
 use Rattle.fvn_match.specs.inner.Goals.{patterns_of, pieces_of, IsFlatOf, SumFits}
 use Rattle.fvn_match.specs.inner.Searching.{IsShort}
-use Rattle.fvn_match.specs.inner.Refusing.{IsMultiple, AreMultiples, IsUneven, IsHopeless, IsSummand, GivesNone, is_low, low_in, low_left}
+use Rattle.fvn_match.specs.inner.Refusing.{IsMultiple, AreMultiples, IsUneven, IsHopeless, IsSummand, KeepsLow, is_low, low_in, low_left}
 use Rattle.fvn_match.specs.declared.goals.SumGoal.{SumGoal}
 use Rattle.fvn_match.proofs.Advancing.{sum-cons}
 use Rattle.fvn_match.proofs.Tallies.{count_repeated, tally_elsewhere}
 use Rattle.fvn_match.proofs.Runs.{length_references}
 use Rattle.fvn_match.proofs.SumSteps.{summands_of, count_summands-append, count_summands-replicate, length_summands-append, none_is_empty, as_many, length_adds_up}
-use Rattle.fvn_match.proofs.HighSums.{low_is_one}
+use Rattle.fvn_match.proofs.LowSums.{low_summand}
 
 -- multiples
 pub multiple_test : (k n : ℕ) → 1 ≤ k → IsTrue (nat_eq (n % k) 0) ↔ IsMultiple k n
@@ -223,8 +223,8 @@ module _ (d : Declarations) (goal : SumGoal) (fit : SumFits d goal) where
       let y = length_adds_up d goal.op c (patterns_of goal) (pieces_of goal) goal.left.now long h in
       omega (arith, many)
 
-  -- each pattern of a sort that no sum has takes a piece of the sort
-  module _ (good : IsGood d) (s : SortId) (none : GivesNone d goal.op s) (lasting : identity (axioms d goal.op) ≡ None) where
+  -- each pattern of a sort that sums have from a summand takes a piece of the sort
+  module _ (good : IsGood d) (s : SortId) (keeps : KeepsLow d goal.op s) (lasting : identity (axioms d goal.op) ≡ None) where
     module _ (c : Values) (k : IsCandidate d c) where
       one_low : (p : FlatTerm) → IsFlatOf d (kind d fit.rank.result) p → (if is_low d s p then 1 else 0) ≤ low_in d s (parts d goal.op (inst d c p))
       one_low p flat = go (is_low d s p) refl
@@ -232,20 +232,11 @@ module _ (d : Declarations) (goal : SumGoal) (fit : SumFits d goal) where
           settled : Settled d (inst d c p)
           settled = inst_settled d c k.flat.settled p
 
-          alone : is_low d s (inst d c p) ≡ true → (l : List FlatTerm) → parts d goal.op (inst d c p) ≡ l → length l ≤ 1 → 1 ≤ length l → 1 ≤ low_in d s l
-          alone low [] e most least = absurd (omega arith)
-          alone low (x ∷ []) e most least =
-              let is : x ≡ inst d c p = ap (sum d goal.op) (sym e) ∙ sum_parts d goal.op (inst d c p) settled in
-              let high : is_low d s x ≡ true = ap (is_low d s) is ∙ low in
-              rw high (omega arith)
-          alone low (x ∷ y ∷ l) e most least = absurd (omega arith)
-
           go : (b : Bool) → is_low d s p ≡ b → (if is_low d s p then 1 else 0) ≤ low_in d s (parts d goal.op (inst d c p))
           go false e = rw e (omega arith)
           go true e =
               let below = AtOrBelow-trans d (inst_keeps_sorts d good c k.flat k.sorts p flat.flat (kind d fit.rank.result, flat.has_kind)) (at_or_below-true d (least_sort d p) s e) in
-              let most = low_is_one d good goal.op fit.associative fit.rank fit.listed s none (inst d c p) settled (inst_of_kind d good c k.flat p (kind d fit.rank.result) flat.has_kind) below in
-              rw e (alone (at_or_below-complete d below) (parts d goal.op (inst d c p)) refl most (none_is_empty d goal.op c k.flat.settled lasting p))
+              rw e (low_summand d s good goal.op fit.associative keeps fit.rank fit.listed (inst d c p) settled (inst_of_kind d good c k.flat p (kind d fit.rank.result) flat.has_kind) below (none_is_empty d goal.op c k.flat.settled lasting p))
 
       all_low : (ps : List FlatTerm) → AllByRecursion (IsFlatOf d (kind d fit.rank.result)) ps → low_in d s ps ≤ low_in d s (summands_of d goal.op c ps)
       all_low [] h = omega arith

@@ -20,6 +20,7 @@ mod Weights
 mod WholeSteps
 mod OnePiece
 mod HighSums
+mod LowSums
 mod Hopeless
 mod Copies
 mod Rooms

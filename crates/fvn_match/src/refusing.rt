@@ -19,7 +19,7 @@ ghost use Rattle.fvn_match.specs.inner.Refusing.{
 use crate::choices::total;
 use crate::goals::SumGoal;
 use crate::summands::{after, alike};
-use crate::wholes::{gives_none, is_short, is_single};
+use crate::wholes::{is_short, is_single, keeps_low};
 use fvn_flat::Flat;
 use fvn_signature::Signature;
 use fvn_terms::SortId;
@@ -205,11 +205,14 @@ fn lacks(sig: &Signature, goal: &SumGoal<'_>, s: SortId) -> bool
     ensures { IsTrue result → IsHopeless sig.now goal.now }
 {
     sig.recall_good();
+    if sig.kind(s) == s {
+        return false;
+    }
     match sig.identity(goal.op) {
         Some(_) => false,
         None => {
-            let none = gives_none(sig, goal.op, s);
-            if !none {
+            let keeps = keeps_low(sig, goal.op, s);
+            if !keeps {
                 return false;
             }
             let have = low_pieces(sig, goal, s);

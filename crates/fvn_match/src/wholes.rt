@@ -6,7 +6,7 @@ ghost use Rattle.fvn_match.specs.inner.Tallies.{repeated};
 ghost use Rattle.fvn_match.specs.inner.Summands.{references};
 ghost use Rattle.fvn_match.specs.inner.Goals.{SumFits};
 ghost use Rattle.fvn_match.specs.inner.Searching.{IsGroup, IsOnePiece, IsRoom, IsEmptySum, IsWhole, IsShort};
-ghost use Rattle.fvn_match.specs.inner.Refusing.{IsSummand, GivesNone};
+ghost use Rattle.fvn_match.specs.inner.Refusing.{IsSummand, GivesNone, TakesLow, KeepsLow};
 
 use crate::choices::total;
 use crate::goals::SumGoal;
@@ -133,7 +133,7 @@ fn gives(sig: &Signature, rank: &Rank, s: SortId) -> bool
 }
 
 // Whether no sum of the operator has the sort.
-pub(crate) fn gives_none(sig: &Signature, f: OpId, s: SortId) -> bool
+fn gives_none(sig: &Signature, f: OpId, s: SortId) -> bool
     ensures { IsTrue result → GivesNone sig.now f s }
 {
     if sig.kind(s) == s {
@@ -143,6 +143,45 @@ pub(crate) fn gives_none(sig: &Signature, f: OpId, s: SortId) -> bool
         let one = sig.rank(f, i);
         let may = gives(sig, one, s);
         if may {
+            return false;
+        }
+    }
+    true
+}
+
+// Whether the rank takes an argument of the sort.
+fn takes_low(sig: &Signature, rank: &Rank, s: SortId) -> bool
+    ensures { IsTrue result → TakesLow sig.now s rank.now }
+{
+    let args = rank.args.as_slice();
+    for i in 0..args.len() {
+        let low = sig.leq(args[i], s);
+        if low {
+            return true;
+        }
+    }
+    false
+}
+
+// Whether the rank takes an argument of the sort, where it gives the sort.
+fn rank_keeps_low(sig: &Signature, rank: &Rank, s: SortId) -> bool
+    ensures { IsTrue result → AtOrBelow sig.now rank.now.result s → TakesLow sig.now s rank.now }
+{
+    let may = gives(sig, rank, s);
+    if !may {
+        return true;
+    }
+    takes_low(sig, rank, s)
+}
+
+// Whether each sum of the operator that has the sort has a summand of the sort.
+pub(crate) fn keeps_low(sig: &Signature, f: OpId, s: SortId) -> bool
+    ensures { IsTrue result → KeepsLow sig.now f s }
+{
+    for i in 0..sig.rank_count(f) {
+        let one = sig.rank(f, i);
+        let keeps = rank_keeps_low(sig, one, s);
+        if !keeps {
             return false;
         }
     }

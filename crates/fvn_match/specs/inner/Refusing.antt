@@ -62,6 +62,14 @@ module _ (d : Declarations) where
   abbrev pub GivesNone : OpId → SortId → Type 0
   GivesNone f s = (r : Rank) → Contains (ranks_of d f) r → AtOrBelow d r.result s → ⊥
 
+  -- the rank takes an argument of the sort
+  abbrev pub TakesLow : SortId → Rank → Type 0
+  TakesLow s r = (q : SortId) × (Contains r.args q × AtOrBelow d q s)
+
+  -- each rank of f that gives the sort or one below it takes an argument of the sort
+  abbrev pub KeepsLow : OpId → SortId → Type 0
+  KeepsLow f s = (r : Rank) → Contains (ranks_of d f) r → AtOrBelow d r.result s → TakesLow s r
+
   -- whether the form has the sort
   abbrev pub is_low : SortId → FlatTerm → Bool
   is_low s t = at_or_below d (least_sort d t) s

@@ -7,5 +7,5 @@ use Rattle.fvn_match.proofs.refusing.lacks.Goals as goal
 pub returns-in-None : goal.returns-in-None
 returns-in-None c = λ yes.
     let few = ltb-true c.low_pieces-have.result c.low_patterns-need.result yes in
-    lacking_hopeless c.args.sig.now c.args.goal.now c.requires c.recall_good.ensures c.args.s (c.gives_none-none.ensures c.if-not-none.false) (sym c.in-None.ensures)
+    lacking_hopeless c.args.sig.now c.args.goal.now c.requires c.recall_good.ensures c.args.s (c.keeps_low-keeps.ensures c.if-not-keeps.false) (sym c.in-None.ensures)
     (omega (arith, few, c.low_pieces-have.ensures, c.low_patterns-need.ensures))
