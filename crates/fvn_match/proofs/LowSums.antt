@@ -27,8 +27,11 @@ one_at [] i e g h = absurd (omega arith)
 one_at (x ∷ xs) zero e g h = refl
 one_at (x ∷ xs) (suc i) e g h = one_at xs i e g (omega arith)
 
-pub contains_at : (xs : List SortId) (i : ℕ) (e : SortId) → i < length xs → Contains xs (get_or xs i e)
+contains_at : (xs : List SortId) (i : ℕ) (e : SortId) → i < length xs → Contains xs (get_or xs i e)
 contains_at xs i e h = (i, (h, one_at xs i e (get_or xs i e) h))
+
+pub takes_at : (d : Declarations) (s : SortId) (r : Rank) (l : List SortId) (i : ℕ) (e : SortId) → l ≡ r.args → i < length l → AtOrBelow d (get_or l i e) s → TakesLow d s r
+takes_at d s r l i e is h low = (get_or l i e, (subst (λ (m : List SortId). Contains m (get_or l i e)) is (contains_at l i e h), low))
 
 module _ (d : Declarations) (s : SortId) where
   -- one of the sorts is at or below s
