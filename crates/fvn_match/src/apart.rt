@@ -161,8 +161,8 @@ impl<'a> Apart<'a> {
     }
 }
 
-// Whether what was bound leaves it open that the pattern makes the target, which is asked where a free operator heads the
-// pattern.
+// Whether what was bound leaves it open that the pattern makes the target, which is asked where a free operator
+// heads the pattern.
 pub(crate) fn may_make(
     alloc: Global,
     sig: &Signature,

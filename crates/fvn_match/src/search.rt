@@ -117,8 +117,8 @@ impl Search<'_> {
         requires lengths { length ps.now ≡ length ts.now }
         requires pairs { AllZip (IsPair self.now.sig.now) (references ps.now) (references ts.now) }
         requires state { StateFits self.now.sig.now rest.now sums.now bound.now }
-        ensures { IfOk result (SearchesLists self.now (references ps.now) (references ts.now) rest.now
-            sums.now bound.now) }
+        ensures { IfOk result (SearchesLists self.now (references ps.now) (references ts.now)
+            rest.now sums.now bound.now) }
     {
         if ps.is_empty() {
             return self.solve(&*rest, &*sums, &*bound);
@@ -349,7 +349,8 @@ impl Search<'_> {
         requires group { IsGroup self.now.sig.now goal.now p.now k }
         requires within { k ≤ length goal.now.patterns.now }
         requires limits { limits.now ≡ quotients k goal.now.left.now }
-        ensures { IfOk result (SearchesChoices self.now goal.now p.now k limits.now room sums.now bound.now) }
+        ensures { IfOk result (SearchesChoices self.now goal.now p.now k limits.now room
+            sums.now bound.now) }
     {
         let mut chosen = zeros(self.alloc, limits.len())?;
         loop {
@@ -381,7 +382,8 @@ impl Search<'_> {
         requires within { k ≤ length goal.now.patterns.now }
         requires long { length chosen.now ≡ length goal.now.left.now }
         requires choice { AllZip (λ j n. k * j ≤ n) chosen.now goal.now.left.now }
-        ensures { IfOk result (SearchesChoice self.now goal.now p.now k chosen.now sums.now bound.now) }
+        ensures { IfOk result (SearchesChoice self.now goal.now p.now k chosen.now
+            sums.now bound.now) }
     {
         self.sig.recall_good();
         let whole = match whole(self.alloc, self.sig, goal, chosen)? {

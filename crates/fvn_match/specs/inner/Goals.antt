@@ -63,7 +63,8 @@ module _ (d : Declarations) where
   abbrev pub Asked : Goals → Sums → Values → Type 0
   Asked Done sums c = SumsHold sums c
   Asked (Lists' ps ts r rest) sums c = AllMake ps.now ts.now c × Asked rest sums c
-  Asked (Pairs' pairs r rest) sums c = AllMake (references pairs.patterns.now) (references pairs.targets.now) c × Asked rest sums c
+  Asked (Pairs' pairs r rest) sums c =
+      AllMake (references pairs.patterns.now) (references pairs.targets.now) c × Asked rest sums c
   Asked (Pair' p t r rest) sums c = (inst d c p.now ≡ t.now) × Asked rest sums c
 
   -- what k copies of a pattern ask that are to be this choice of the pieces of a sum, and the other patterns, and then sums
@@ -83,7 +84,8 @@ module _ (d : Declarations) where
   abbrev pub GoalsFit : Goals → Type 0
   GoalsFit Done = Unit {0}
   GoalsFit (Lists' ps ts r rest) = AllZip IsPair ps.now ts.now × GoalsFit rest
-  GoalsFit (Pairs' pairs r rest) = AllZip IsPair (references pairs.patterns.now) (references pairs.targets.now) × GoalsFit rest
+  GoalsFit (Pairs' pairs r rest) =
+      AllZip IsPair (references pairs.patterns.now) (references pairs.targets.now) × GoalsFit rest
   GoalsFit (Pair' p t r rest) = IsPair p.now t.now × GoalsFit rest
 
   -- a flat form of the kind
