@@ -18,6 +18,7 @@ ghost use Rattle.fvn_match.specs.inner.Refusing.{
 
 use crate::choices::total;
 use crate::goals::SumGoal;
+use crate::heads::has_no_identity;
 use crate::summands::{after, alike};
 use crate::wholes::{is_short, is_single, keeps_low};
 use fvn_flat::Flat;
@@ -138,13 +139,12 @@ fn is_short_of_copies(sig: &Signature, goal: &SumGoal<'_>) -> bool
     if k == 1 {
         return false;
     }
-    match sig.identity(goal.op) {
-        Some(_) => false,
-        None => {
-            let have = shares(goal.left, k);
-            have_copies(goal.patterns, k, have)
-        }
+    let lasting = has_no_identity(sig, goal.op);
+    if !lasting {
+        return false;
     }
+    let have = shares(goal.left, k);
+    have_copies(goal.patterns, k, have)
 }
 
 // Whether there are more pieces than patterns, each of which takes one at most.
@@ -208,18 +208,17 @@ fn lacks(sig: &Signature, goal: &SumGoal<'_>, s: SortId) -> bool
     if sig.kind(s) == s {
         return false;
     }
-    match sig.identity(goal.op) {
-        Some(_) => false,
-        None => {
-            let keeps = keeps_low(sig, goal.op, s);
-            if !keeps {
-                return false;
-            }
-            let have = low_pieces(sig, goal, s);
-            let need = low_patterns(sig, goal, s);
-            have < need
-        }
+    let lasting = has_no_identity(sig, goal.op);
+    if !lasting {
+        return false;
     }
+    let keeps = keeps_low(sig, goal.op, s);
+    if !keeps {
+        return false;
+    }
+    let have = low_pieces(sig, goal, s);
+    let need = low_patterns(sig, goal, s);
+    have < need
 }
 
 // The sort of the pattern at a place, if it is a variable and the one before it is none of the same sort.

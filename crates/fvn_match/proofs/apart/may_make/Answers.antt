@@ -11,9 +11,9 @@ returns-in-None c = λ no. absurd (false≢true (sym no))
 pub returns-then-not-free : goal.returns-then-not-free
 returns-then-not-free c = λ no. absurd (false≢true (sym no))
 
-pub take-may-requires-clause-fits : goal.take-may-requires-clause-fits
-take-may-requires-clause-fits c = untouched_fits c.args.sig.now (bindings_of c.args.bound.now) c.requires.values c.untouched-parts.result c.untouched-parts.ensures
+pub take-requires-clause-fits : goal.take-requires-clause-fits
+take-requires-clause-fits c = untouched_fits c.args.sig.now (bindings_of c.args.bound.now) c.requires.values c.untouched-parts.result c.untouched-parts.ensures
 
-pub returns-in_ok-may : goal.returns-in_ok-may
-returns-in_ok-may c = λ no v k agrees is.
+pub returns : goal.returns
+returns c = λ no v k agrees is.
     (rw no at c.in_ok-may.ensures) v k is ((untouched_asks c.args.sig.now (bindings_of c.args.bound.now) c.untouched-parts.result c.untouched-parts.ensures v).1 agrees)

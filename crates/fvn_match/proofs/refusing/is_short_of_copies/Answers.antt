@@ -1,5 +1,5 @@
 -- More patterns that stand there so often than pieces of which so many are left.
-use Rattle.std.proofs.Common.{sym, subst}
+use Rattle.std.proofs.Common.{subst}
 use Rattle.fvn_match.specs.inner.Goals.{patterns_of}
 use Rattle.fvn_match.specs.inner.Refusing.{HaveCopies}
 use Rattle.fvn_match.proofs.Copies.{copies_hopeless}
@@ -11,7 +11,7 @@ shares-have-requires-clause-some c = c.alike-k.ensures.some
 pub shares-have-requires-clause-small : goal.shares-have-requires-clause-small
 shares-have-requires-clause-small c = c.requires.small
 
-pub returns-in-None : goal.returns-in-None
-returns-in-None c = λ yes.
-    copies_hopeless c.args.sig.now c.args.goal.now c.requires (sym c.in-None.ensures) c.alike-k.result c.alike-k.ensures.some
+pub returns : goal.returns
+returns c = λ yes.
+    copies_hopeless c.args.sig.now c.args.goal.now c.requires (c.has_no_identity-lasting.ensures c.if-not-lasting.false) c.alike-k.result c.alike-k.ensures.some
     (subst (λ n. HaveCopies c.alike-k.result n (patterns_of c.args.goal.now)) c.shares-have.ensures (c.have_copies.ensures yes))
