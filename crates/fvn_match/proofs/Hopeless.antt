@@ -154,13 +154,16 @@ module _ (d : Declarations) (s : SortId) where
   low_append (t ∷ l) m = let a = low_append l m in omega arith
 
   low_replicate : (n : ℕ) (t : FlatTerm) → low_in d s (replicate n t) ≡ (if is_low d s t then n else 0)
-  low_replicate n t = go (is_low d s t) refl n
+  low_replicate zero t = go (is_low d s t)
     where
-      go : (b : Bool) → is_low d s t ≡ b → (n : ℕ) → low_in d s (replicate n t) ≡ (if is_low d s t then n else 0)
-      go true p zero = rw p refl
-      go false p zero = rw p refl
-      go true p (suc n) = let ih : low_in d s (replicate n t) ≡ n = rw p at (go true p n) in rw p (omega arith)
-      go false p (suc n) = let ih : low_in d s (replicate n t) ≡ 0 = rw p at (go false p n) in rw p (omega arith)
+      go : (x : Bool) → 0 ≡ (if x then 0 else 0)
+      go true = refl
+      go false = refl
+  low_replicate (suc n) t = go (is_low d s t) refl (low_replicate n t)
+    where
+      go : (x : Bool) → is_low d s t ≡ x → low_in d s (replicate n t) ≡ (if is_low d s t then n else 0) → (if is_low d s t then 1 else 0) + low_in d s (replicate n t) ≡ (if is_low d s t then suc n else 0)
+      go true p ih = let e : low_in d s (replicate n t) ≡ n = rw p at ih in rw p (omega arith)
+      go false p ih = let e : low_in d s (replicate n t) ≡ 0 = rw p at ih in rw p (omega arith)
 
   low_repeated : (ts : List FlatTerm) (ns : List ℕ) → low_in d s (repeated ts ns) ≡ low_left d s ts ns
   low_repeated [] ns = refl

@@ -23,7 +23,7 @@ overflow_add-n c =
     let xs = c.args.goal.now.pieces.now in
     let p = c.index-goal-i.result in
     let long = length_references xs in
-    let e = low_left-drop d c.args.s (pieces_of c.args.goal.now) c.args.goal.now.left.now c.loop-i.i p.now _ (omega arith) (omega (arith, c.requires.long)) (references-get xs c.loop-i.i p (omega arith) c.index-goal-i.is) in
+    let e = low_left-drop d c.args.s (pieces_of c.args.goal.now) c.args.goal.now.left.now c.loop-i.i p.now 0 (omega arith) (omega (arith, c.requires.long)) (references-get xs c.loop-i.i p (omega arith) c.index-goal-i.is) in
     let most = low_left-le d c.args.s (pieces_of c.args.goal.now) c.args.goal.now.left.now in
     omega (arith, e, most, c.if_low-more.ensures, c.loop-i.invariant, c.requires.small)
 
@@ -33,7 +33,7 @@ loop-i-preserved c =
     let xs = c.args.goal.now.pieces.now in
     let p = c.index-goal-i.result in
     let long = length_references xs in
-    let e = low_left-drop d c.args.s (pieces_of c.args.goal.now) c.args.goal.now.left.now c.loop-i.i p.now _ (omega arith) (omega (arith, c.requires.long)) (references-get xs c.loop-i.i p (omega arith) c.index-goal-i.is) in
+    let e = low_left-drop d c.args.s (pieces_of c.args.goal.now) c.args.goal.now.left.now c.loop-i.i p.now 0 (omega arith) (omega (arith, c.requires.long)) (references-get xs c.loop-i.i p (omega arith) c.index-goal-i.is) in
     omega (arith, e, c.if_low-more.ensures, c.loop-i.invariant)
 
 pub returns : goal.returns

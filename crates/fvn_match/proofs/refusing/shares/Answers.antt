@@ -8,12 +8,12 @@ loop-i-init c = omega arith
 
 pub overflow_add-n : goal.overflow_add-n
 overflow_add-n c =
-    let e = quotients-drop c.args.k c.args.ns.now c.loop-i.i _ (omega arith) in
+    let e = quotients-drop c.args.k c.args.ns.now c.loop-i.i 0 (omega arith) in
     let most = quotients_le c.args.k c.requires.some c.args.ns.now in
     omega (arith, e, most, c.loop-i.invariant, c.requires.small)
 
 pub loop-i-preserved : goal.loop-i-preserved
-loop-i-preserved c = let e = quotients-drop c.args.k c.args.ns.now c.loop-i.i _ (omega arith) in omega (arith, e, c.loop-i.invariant)
+loop-i-preserved c = let e = quotients-drop c.args.k c.args.ns.now c.loop-i.i 0 (omega arith) in omega (arith, e, c.loop-i.invariant)
 
 pub returns : goal.returns
 returns c =
