@@ -10,17 +10,16 @@ use Rattle.fvn_terms.specs.declared.plain.SortId.{SortId}
 use Rattle.fvn_terms.specs.declared.declarations.Rank.{Rank}
 use Rattle.fvn_terms.specs.declared.declarations.Declarations.{Declarations}
 use Rattle.fvn_terms.specs.Signature.{kind, declared, axioms, AtOrBelow, HasKind}
-use Rattle.fvn_terms.specs.Equality.{IsAssociative}
-use Rattle.fvn_forms.specs.Flat.{FlatTerm, fvar, plain}
-use Rattle.fvn_forms.specs.Canon.{parts, sum}
+use Rattle.fvn_terms.specs.Equality.{IsAssociative, identity}
+use Rattle.fvn_forms.specs.Flat.{FlatTerm, FlatTerms, fvar, fapp, fnone, fmore, funpack, fconstant, plain}
+use Rattle.fvn_forms.specs.Canon.{same_op, is_identity, parts}
 use Rattle.fvn_forms.specs.Settled.{Settled}
 use Rattle.fvn_forms.specs.Good.{IsOfKind, IsGood}
 use Rattle.fvn_forms.specs.Ranks.{ranks_of}
-use Rattle.fvn_forms.specs.LeastSort.{result_of_two, least_sort}
+use Rattle.fvn_forms.specs.LeastSort.{result_of_two, sum_sort, sort_in, sorts_in, least_sort}
 use Rattle.fvn_forms.proofs.Results.{result-is, result-pair, TakesKinds-pair}
-use Rattle.fvn_forms.proofs.Sums.{sum_parts, parts_are_settled}
+use Rattle.fvn_forms.proofs.Sums.{same_op_is, parts_are_settled}
 use Rattle.fvn_forms.proofs.KindsOfSums.{parts_of_kind}
-use Rattle.fvn_forms.proofs.SortsOfSums.{sort_of_sum, each_map}
 use Rattle.fvn_forms.proofs.LeastSort.{sort_in-kind}
 use Rattle.fvn_match.specs.inner.Refusing.{GivesNone, IsSummand}
 use Rattle.fvn_match.specs.inner.Searching.{IsOnePiece}
@@ -53,6 +52,31 @@ all_ranks d f P n enough holds r at =
     let read = slice_get_read (ranks_of d f) (length (ranks_of d f)) at.0 r refl at.1 (sym at.2) in
     holds at.0 r (let within = at.1 in omega (arith, within, enough)) read
 
+pub each_map : {A B : Type 0} (P : B → Type 0) (g : A → B) (l : List A) → AllByRecursion (λ x. P (g x)) l → AllByRecursion P (map g l)
+each_map P g [] h = tt
+each_map P g (x ∷ l) h = (h.0, each_map P g l h.1)
+
+sorts_in-funpack : (d : Declarations) (ts : FlatTerms) → sorts_in d (λ x. x.sort) ts ≡ map (least_sort d) (funpack ts)
+sorts_in-funpack d fnone = refl
+sorts_in-funpack d (fmore t ts) = ap (λ ss. least_sort d t ∷ ss) (sorts_in-funpack d ts)
+
+-- the sort of a form from its summands
+pub sort_of_parts : (d : Declarations) (f : OpId) (t x : FlatTerm) (xs : List FlatTerm) → parts d f t ≡ x ∷ xs → least_sort d t ≡ sum_sort d f (map (least_sort d) (x ∷ xs))
+sort_of_parts d f (fvar y) x xs e = ap (λ l. sum_sort d f (map (least_sort d) l)) e
+sort_of_parts d f (fapp g true ts) x xs e = go (same_op f g) refl
+  where
+    go : (b : Bool) → same_op f g ≡ b → least_sort d (fapp g true ts) ≡ sum_sort d f (map (least_sort d) (x ∷ xs))
+    go true p =
+        let q : funpack ts ≡ x ∷ xs = rw p at e in
+        (λ i. sum_sort d (sym (same_op_is f g p) i) (sorts_in-funpack d ts i)) ∙ ap (λ l. sum_sort d f (map (least_sort d) l)) q
+    go false p = let q : fapp g true ts ∷ [] ≡ x ∷ xs = rw p at e in ap (λ l. sum_sort d f (map (least_sort d) l)) q
+sort_of_parts d f (fapp g false fnone) x xs e = go (is_identity (identity (axioms d f)) g) refl
+  where
+    go : (b : Bool) → is_identity (identity (axioms d f)) g ≡ b → least_sort d (fconstant g) ≡ sum_sort d f (map (least_sort d) (x ∷ xs))
+    go true p = let q : [] ≡ x ∷ xs = rw p at e in cc
+    go false p = let q : fconstant g ∷ [] ≡ x ∷ xs = rw p at e in ap (λ l. sum_sort d f (map (least_sort d) l)) q
+sort_of_parts d f (fapp g false (fmore t ts)) x xs e = ap (λ l. sum_sort d f (map (least_sort d) l)) e
+
 module _ (d : Declarations) (good : IsGood d) (f : OpId) (assoc : IsAssociative (axioms d f)) where
   -- some rank gives the sort
   record IsGiven (s : SortId) : Type 0 where
@@ -78,7 +102,7 @@ module _ (d : Declarations) (good : IsGood d) (f : OpId) (assoc : IsAssociative 
           go [] e k = omega arith
           go (x ∷ []) e k = omega arith
           go (x ∷ y ∷ l) e k =
-              let is = ap (least_sort d) (sym (sum_parts d f t settled) ∙ ap (sum d f) e) ∙ sort_of_sum d good f assoc (λ v. v.sort) x (y ∷ l) k in
+              let is = sort_of_parts d f t x (y ∷ l) e in
               let g = given (least_sort d x) (least_sort d y) (map (least_sort d) l) k.0 k.1.0 (each_map (IsOfKind d f) (least_sort d) l k.1.1) in
               absurd (none g.rank g.listed (subst (λ q. AtOrBelow d q s) (is ∙ sym g.gives) low))
 

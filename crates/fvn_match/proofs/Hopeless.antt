@@ -156,7 +156,7 @@ module _ (d : Declarations) (s : SortId) where
   low_replicate : (n : ℕ) (t : FlatTerm) → low_in d s (replicate n t) ≡ (if is_low d s t then n else 0)
   low_replicate zero t = go (is_low d s t)
     where
-      go : (x : Bool) → 0 ≡ (if x then 0 else 0)
+      go : (x : Bool) → zero ≡ (if x then zero else zero)
       go true = refl
       go false = refl
   low_replicate (suc n) t = go (is_low d s t) refl (low_replicate n t)

@@ -18,9 +18,8 @@ use Rattle.fvn_forms.proofs.SortTests.{at_or_below-complete}
 use Rattle.fvn_forms.proofs.Results.{result-is, result-pair, TakesKinds-pair}
 use Rattle.fvn_forms.proofs.Sums.{sum_parts, parts_are_settled}
 use Rattle.fvn_forms.proofs.KindsOfSums.{parts_of_kind}
-use Rattle.fvn_forms.proofs.SortsOfSums.{sort_of_sum, each_map}
 use Rattle.fvn_match.specs.inner.Refusing.{TakesLow, KeepsLow, is_low, low_in}
-use Rattle.fvn_match.proofs.HighSums.{sorts_fit}
+use Rattle.fvn_match.proofs.HighSums.{each_map, sort_of_parts, sorts_fit}
 
 one_at : (xs : List SortId) (i : ℕ) (e g : SortId) → i < length xs → get_or xs i g ≡ get_or xs i e
 one_at [] i e g h = absurd (omega arith)
@@ -28,7 +27,7 @@ one_at (x ∷ xs) zero e g h = refl
 one_at (x ∷ xs) (suc i) e g h = one_at xs i e g (omega arith)
 
 contains_at : (xs : List SortId) (i : ℕ) (e : SortId) → i < length xs → Contains xs (get_or xs i e)
-contains_at xs i e h = (i, (h, one_at xs i e (get_or xs i e) h))
+contains_at xs i e h = (i, h, one_at xs i e (get_or xs i e) h)
 
 pub takes_at : (d : Declarations) (s : SortId) (r : Rank) (l : List SortId) (i : ℕ) (e : SortId) → l ≡ r.args → i < length l → AtOrBelow d (get_or l i e) s → TakesLow d s r
 takes_at d s r l i e is h low = (get_or l i e, (subst (λ (m : List SortId). Contains m (get_or l i e)) is (contains_at l i e h), low))
@@ -58,12 +57,15 @@ module _ (d : Declarations) (s : SortId) where
   counted (t ∷ l) (inr h) = let a = counted l h in omega arith
 
   module _ (good : IsGood d) (f : OpId) (assoc : IsAssociative (axioms d f)) (keeps : KeepsLow d f s) where
-    among : (a b : SortId) (l : List SortId) → IsOfKind d f a → IsOfKind d f b → AllByRecursion (IsOfKind d f) l → AtOrBelow d (fold (result_of_two d f) a (b ∷ l)) s → HasLow (a ∷ b ∷ l)
-    among a b [] p q ps low =
+    of_pair : (a b : SortId) → IsOfKind d f a → IsOfKind d f b → AtOrBelow d (result_of_two d f a b) s → HasLow (a ∷ b ∷ [])
+    of_pair a b p q low =
         let w = (result-is d good f (a ∷ b ∷ []) (TakesKinds-pair d good f a b assoc p q)).serves in
         let k = keeps w.rank w.listed (subst (λ z. AtOrBelow d z s) (sym w.gives) low) in
         of_two a b w.rank.args w.fits k.0 k.1.0.0 k.1.0.1 k.1.0.2 k.1.1
-    among a b (c ∷ l) p q ps low = go (among (result_of_two d f a b) c l (result-pair d good f a b assoc p q) ps.0 ps.1 low) (λ h. among a b [] p q tt h)
+
+    among : (a b : SortId) (l : List SortId) → IsOfKind d f a → IsOfKind d f b → AllByRecursion (IsOfKind d f) l → AtOrBelow d (fold (result_of_two d f) a (b ∷ l)) s → HasLow (a ∷ b ∷ l)
+    among a b [] p q ps low = of_pair a b p q low
+    among a b (c ∷ l) p q ps low = go (among (result_of_two d f a b) c l (result-pair d good f a b assoc p q) ps.0 ps.1 low) (of_pair a b p q)
       where
         go : HasLow (result_of_two d f a b ∷ c ∷ l) → (AtOrBelow d (result_of_two d f a b) s → HasLow (a ∷ b ∷ [])) → HasLow (a ∷ b ∷ c ∷ l)
         go (inl h) two = widened a b (c ∷ l) (two h)
@@ -80,5 +82,5 @@ module _ (d : Declarations) (s : SortId) where
             let high : is_low d s x ≡ true = ap (is_low d s) is ∙ at_or_below-complete d low in
             rw high (omega arith)
         go (x ∷ y ∷ l) e k some =
-            let is = ap (least_sort d) (sym (sum_parts d f t settled) ∙ ap (sum d f) e) ∙ sort_of_sum d good f assoc (λ v. v.sort) x (y ∷ l) k in
+            let is = sort_of_parts d f t x (y ∷ l) e in
             counted (x ∷ y ∷ l) (among (least_sort d x) (least_sort d y) (map (least_sort d) l) k.0 k.1.0 (each_map (IsOfKind d f) (least_sort d) l k.1.1) (subst (λ q. AtOrBelow d q s) is low))

@@ -1,5 +1,7 @@
 -- One piece more.
-use Rattle.std.proofs.Common.{◌≡◌, ◌≤◌, length, get_or, refl, arith}
+use Rattle.std.proofs.Common.{◌≡◌, ◌≤◌, length, get_or, refl, arith, ap}
+use denote.Ref.{Bor}
+use Rattle.fvn_forms.specs.Flat.{FlatTerm}
 use Rattle.fvn_terms.specs.Signature.{kind}
 use Rattle.fvn_match.specs.inner.Goals.{pieces_of}
 use Rattle.fvn_match.specs.inner.Refusing.{is_low}
@@ -13,17 +15,17 @@ loop-i-init c = omega arith
 pub if_low-more-requires : goal.if_low-more-requires
 if_low-more-requires c =
     let xs = c.args.goal.now.pieces.now in
-    let p = c.index-goal-i.result in
+    let p = get_or xs c.loop-i.i c.index-goal-i.result in
     let long = length_references xs in
-    piece_fits c.args.sig.now c.args.goal.now c.requires c.loop-i.i p.now (omega arith) (references-get xs c.loop-i.i p (omega arith) c.index-goal-i.is)
+    piece_fits c.args.sig.now c.args.goal.now c.requires c.loop-i.i p.now (omega arith) (references-get xs c.loop-i.i p (omega arith) (ap (λ (r : Bor FlatTerm). get_or xs c.loop-i.i r) c.index-goal-i.is))
 
 pub overflow_add-n : goal.overflow_add-n
 overflow_add-n c =
     let d = c.args.sig.now in
     let xs = c.args.goal.now.pieces.now in
-    let p = c.index-goal-i.result in
+    let p = get_or xs c.loop-i.i c.index-goal-i.result in
     let long = length_references xs in
-    let e = low_left-drop d c.args.s (pieces_of c.args.goal.now) c.args.goal.now.left.now c.loop-i.i p.now 0 (omega arith) (omega (arith, c.requires.long)) (references-get xs c.loop-i.i p (omega arith) c.index-goal-i.is) in
+    let e = low_left-drop d c.args.s (pieces_of c.args.goal.now) c.args.goal.now.left.now c.loop-i.i p.now 0 (omega arith) (omega (arith, c.requires.long)) (references-get xs c.loop-i.i p (omega arith) (ap (λ (r : Bor FlatTerm). get_or xs c.loop-i.i r) c.index-goal-i.is)) in
     let most = low_left-le d c.args.s (pieces_of c.args.goal.now) c.args.goal.now.left.now in
     omega (arith, e, most, c.if_low-more.ensures, c.loop-i.invariant, c.requires.small)
 
@@ -31,9 +33,9 @@ pub loop-i-preserved : goal.loop-i-preserved
 loop-i-preserved c =
     let d = c.args.sig.now in
     let xs = c.args.goal.now.pieces.now in
-    let p = c.index-goal-i.result in
+    let p = get_or xs c.loop-i.i c.index-goal-i.result in
     let long = length_references xs in
-    let e = low_left-drop d c.args.s (pieces_of c.args.goal.now) c.args.goal.now.left.now c.loop-i.i p.now 0 (omega arith) (omega (arith, c.requires.long)) (references-get xs c.loop-i.i p (omega arith) c.index-goal-i.is) in
+    let e = low_left-drop d c.args.s (pieces_of c.args.goal.now) c.args.goal.now.left.now c.loop-i.i p.now 0 (omega arith) (omega (arith, c.requires.long)) (references-get xs c.loop-i.i p (omega arith) (ap (λ (r : Bor FlatTerm). get_or xs c.loop-i.i r) c.index-goal-i.is)) in
     omega (arith, e, c.if_low-more.ensures, c.loop-i.invariant)
 
 pub returns : goal.returns
