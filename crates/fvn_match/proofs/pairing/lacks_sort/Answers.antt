@@ -2,7 +2,7 @@
 use Rattle.std.proofs.Common.{◌≡◌, sym, subst}
 use Rattle.std.specs.Prelude.{◌↔◌, IsTrue}
 use Rattle.fvn_terms.specs.Signature.{AtOrBelow}
-use Rattle.fvn_match.proofs.pairing.is_sorted_above.Goals as goal
+use Rattle.fvn_match.proofs.pairing.lacks_sort.Goals as goal
 
 pub least_sort-requires : goal.least_sort-requires
 least_sort-requires c = record { flat = c.requires.target; kinded = (c.requires.of_kind, c.requires.target_kind) }
