@@ -20,6 +20,7 @@ fn push_sort(out: &mut String, sort: &RawSort<'_>) -> Result<(), NoMemory> {
     Ok(())
 }
 
+// The label of an equation, if it has one.
 fn push_label(out: &mut String, label: &Option<Text<'_>>) -> Result<(), NoMemory> {
     if let Some(text) = label {
         out.push('[')?;
@@ -111,6 +112,7 @@ fn push_statement(
     }
 }
 
+// What is read of each statement.
 fn shown_list(alloc: Global, statements: &[Statement<'_>]) -> Result<String, NoMemory> {
     let mut out = String::new(alloc);
     out.push_str("read")?;
@@ -120,6 +122,7 @@ fn shown_list(alloc: Global, statements: &[Statement<'_>]) -> Result<String, NoM
     Ok(out)
 }
 
+// The statements of tokens, or their fault.
 fn shown_pieces<'a>(alloc: Global, pieces: &'a [Piece<'a>]) -> Result<String, NoMemory> {
     match read_form(alloc, pieces) {
         Ok(form) => shown_list(alloc, form.statements.as_slice()),
@@ -146,6 +149,7 @@ pub fn shown_body(alloc: Global, statements: &str) -> Result<String, NoMemory> {
     shown_form(alloc, text.as_str())
 }
 
+// How many tokens the term takes with which the row begins.
 fn shown_term(alloc: Global, row: &[Piece<'_>]) -> Result<String, NoMemory> {
     match skip_term(alloc, row)? {
         Some(n) => Ok(format!(in alloc; "{n}")?),
