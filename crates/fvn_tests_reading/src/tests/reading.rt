@@ -3,7 +3,7 @@ use super::writing::{push_number, text_of};
 use fvn_module::{Module, ModuleFault, read_module};
 use fvn_module_statements::read_form;
 use fvn_module_syntax::{Mark, RawRank, Statement};
-use fvn_syntax::{Piece, RawSort, Text, cut, skip_term};
+use fvn_syntax::{Piece, RawSort, Row, Text, cut, skip_term};
 use fvn_terms::NoMemory;
 use std::alloc::Global;
 
@@ -67,6 +67,22 @@ fn push_rank(
     push_number(out, alloc, " ", attributes)
 }
 
+// The label, how many tokens the sides have, and the attributes.
+fn push_equation(
+    out: &mut String,
+    alloc: Global,
+    label: &Option<Text<'_>>,
+    left: &Row<'_>,
+    right: &Row<'_>,
+    marks: &[Mark<'_>],
+) -> Result<(), NoMemory> {
+    out.push_str(", eq ")?;
+    push_label(out, label)?;
+    push_number(out, alloc, "", left.pieces().len())?;
+    push_number(out, alloc, " = ", right.pieces().len())?;
+    push_marks(out, marks)
+}
+
 // What is read of a statement.
 fn push_statement(
     out: &mut String,
@@ -86,13 +102,7 @@ fn push_statement(
             left,
             right,
             marks,
-        } => {
-            out.push_str(", eq ")?;
-            push_label(out, label)?;
-            push_number(out, alloc, "", left.pieces().len())?;
-            push_number(out, alloc, " = ", right.pieces().len())?;
-            push_marks(out, marks.as_slice())
-        }
+        } => push_equation(out, alloc, label, left, right, marks.as_slice()),
         Statement::Operator {
             name,
             rank,
