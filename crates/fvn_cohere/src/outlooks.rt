@@ -322,7 +322,8 @@ fn is_below_rank(sig: &Signature, parts: &[Outlook], low: SortId, rank: &Rank) -
 
 // Whether the sort is at or below the results of all ranks that may serve.
 fn is_below_ranks(sig: &Signature, f: OpId, parts: &[Outlook], low: SortId) -> bool
-    ensures { result ≡ list_all (is_below_rank sig.now (lows_of parts.now) low) (ranks_of sig.now f) }
+    ensures { result ≡ list_all (is_below_rank sig.now (lows_of parts.now) low)
+        (ranks_of sig.now f) }
 {
     for i in 0..sig.rank_count(f) {
         if !is_below_rank(sig, parts, low, sig.rank(f, i)) {

@@ -120,7 +120,8 @@ fn move_on(
     list: &mut Vec<Token>,
 ) -> Result<Place, LexFault>
     requires { offset + 1 < 2 ^ 64 }
-    ensures ok { IfOk result (LeadsTo (advance place offset byte text.now) list.old.items list.new.items) }
+    ensures ok { IfOk result
+        (LeadsTo (advance place offset byte text.now) list.old.items list.new.items) }
     ensures err { IfErr result (StopsAt (advance place offset byte text.now)) }
 {
     match place {
@@ -175,16 +176,19 @@ pub fn tokens(alloc: Global, bytes: &[u8]) -> Result<Vec<Token>, LexFault>
     ensures ok { IfOk result (λ list. lex bytes.now ≡ Ok list.items) }
 
     // The text of each piece is the slice of its token.
-    ensures pieces { IfOk result (λ list. pieces_of bytes.now ≡ Some (map (piece_at bytes.now) list.items)) }
+    ensures pieces { IfOk result (λ list.
+        pieces_of bytes.now ≡ Some (map (piece_at bytes.now) list.items)) }
     ensures within { IfOk result (λ list. AreWithin bytes.now list.items) }
     ensures ordered { IfOk result (λ list. AreInOrder list.items) }
 
-    ensures err { IfErr result (λ fault. (fault ≡ LexFault.NoMemory) ⊎ (lex bytes.now ≡ Err fault)) }
+    ensures err { IfErr result (λ fault.
+        (fault ≡ LexFault.NoMemory) ⊎ (lex bytes.now ≡ Err fault)) }
 
     // Beside the definition: all bytes are those of white space, comments and these tokens, each as long as it
     // can be, and a fault is the first.
     ensures cut { IfOk result (λ list. IsCutInto bytes.now list.items) }
-    ensures first { IfErr result (λ fault. (fault ≡ LexFault.NoMemory) ⊎ IsFirstFault bytes.now fault) }
+    ensures first { IfErr result (λ fault.
+        (fault ≡ LexFault.NoMemory) ⊎ IsFirstFault bytes.now fault) }
 {
     let mut list = Vec::new(alloc);
     let mut place = Place::Between;

@@ -302,7 +302,8 @@ impl<'a> Reader<'a, OperatorName<'a>> for AnyName {
 
 // A name in parentheses, of which the first is read.
 fn read_round<'a>(row: &'a [Piece<'a>]) -> Option<(OperatorName<'a>, Row<'a>)>
-    ensures { MatchOption (before_close 0 row.now) (result ≡ None) (λ r. result ≡ round_name r.0 r.1) }
+    ensures { MatchOption (before_close 0 row.now) (result ≡ None) (λ r.
+        result ≡ round_name r.0 r.1) }
 {
     let Some((inside, rest)) = before_close(row) else {
         return None;

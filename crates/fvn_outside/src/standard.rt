@@ -115,7 +115,8 @@ impl<W: Write> Sink for StdSink<W> {
         // takes nothing.
         ensures bytes { WriteAppends (W.contents (writer_of self.old))
             (W.contents (writer_of self.new)) result bytes.now }
-        ensures counted { OnErr result (write_faults self.new ≡ next_count (write_faults self.old)) }
+        ensures counted { OnErr result (write_faults self.new
+            ≡ next_count (write_faults self.old)) }
         ensures counted_stuck { IfOk result (λ n. write_faults self.new ≡
             (if n == 0 then next_count (write_faults self.old) else write_faults self.old)) }
     {

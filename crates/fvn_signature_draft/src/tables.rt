@@ -39,7 +39,8 @@ fn rows(
     ranks: &[Rank],
 ) -> Result<Vec<Seq<SortId>>, NoMemory>
     requires { FindAlike ranks.now (ranks_of draft.now.declarations op) }
-    ensures { IfOk result (λ v. v.items ≡ results_of_two draft.now.declarations op draft.now.total) }
+    ensures { IfOk result (λ v.
+        v.items ≡ results_of_two draft.now.declarations op draft.now.total) }
 {
     let mut list = Vec::with_capacity(alloc, usize::from(draft.total))?;
     for s in 0..draft.total {

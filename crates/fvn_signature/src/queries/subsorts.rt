@@ -19,7 +19,8 @@ fn is_below(draft: &Draft, s: SortId, q: SortId) -> bool
 
 /// Whether the second sort is above the first and below the third, and is neither.
 fn stands_between(draft: &Draft, t: SortId, q: SortId, s: SortId) -> bool
-    ensures { result ≡ (is_below draft.now.declarations t q && is_below draft.now.declarations q s) }
+    ensures { result
+        ≡ (is_below draft.now.declarations t q && is_below draft.now.declarations q s) }
 {
     is_below(draft, t, q) && is_below(draft, q, s)
 }

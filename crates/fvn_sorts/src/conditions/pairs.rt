@@ -158,7 +158,8 @@ fn one_takes_bounds(
     place: usize,
     left: &[usize],
 ) -> bool
-    ensures { IsTrue result → Any (TakesBounds draft.now.declarations ranks.now bounds.now place) left.now }
+    ensures { IsTrue result → Any (TakesBounds draft.now.declarations ranks.now bounds.now place)
+        left.now }
 {
     for number in left {
         if takes_bounds(draft, ranks, bounds, place, *number) {
@@ -213,7 +214,8 @@ fn are_covered(
     left: &[usize],
 ) -> Result<bool, NoMemory>
     requires place { place ≤ length bounds.now }
-    ensures { IfOk result (λ b. IsTrue b → Cover draft.now.declarations ranks.now bounds.now place left.now) }
+    ensures { IfOk result (λ b. IsTrue b
+        → Cover draft.now.declarations ranks.now bounds.now place left.now) }
 {
     if one_takes_bounds(draft, ranks, bounds, place, left) {
         return Ok(true);
@@ -267,7 +269,8 @@ pub fn have_third(
 ) -> Result<bool, NoMemory>
     requires one { Contains ranks.now one.now }
     requires other { Contains ranks.now other.now }
-    ensures { IfOk result (λ b. IsTrue b → HaveThird draft.now.declarations ranks.now one.now other.now) }
+    ensures { IfOk result (λ b. IsTrue b
+        → HaveThird draft.now.declarations ranks.now one.now other.now) }
 {
     if draft.is_at_or_below(one.result, other.result) {
         return Ok(true);

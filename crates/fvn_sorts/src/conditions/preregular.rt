@@ -147,7 +147,8 @@ pub fn first_without(
     ranks: &[Rank],
 ) -> Result<Option<Seq<SortId>>, NoMemory>
     requires listed { All (λ k. k.0 < draft.now.total) kinds.now }
-    ensures { IfOk result (IsFirstList the_list (HasNoLowest draft.now.declarations kinds.now ranks.now)) }
+    ensures { IfOk result
+        (IsFirstList the_list (HasNoLowest draft.now.declarations kinds.now ranks.now)) }
 {
     if have_lowest(alloc, draft, kinds, ranks)? {
         return Ok(None);

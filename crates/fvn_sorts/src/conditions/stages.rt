@@ -112,7 +112,8 @@ fn result_fault(
 fn bad_brackets(draft: &Draft, collected: &Collected, op: OpId) -> Option<Triple>
     requires draft { IsDraftOf collected.now draft.now }
     requires agree { AgreeInKinds collected.now }
-    ensures { IsFirstList three_sorts (λ t. HasBadBrackets collected.now op t.first t.second t.third) result }
+    ensures { IsFirstList three_sorts
+        (λ t. HasBadBrackets collected.now op t.first t.second t.third) result }
 {
     let ranks = draft.declared_ranks(op);
     if ranks.is_empty() {
