@@ -118,7 +118,8 @@ impl Search<'_> {
         requires posed { IsPosed self.now }
         requires allowed { AreAllowed self.now.sig.now (shapes_by chosen.now) }
         ensures { IsTrue result →
-            some_choice (is_sought self.now) (drop from self.now.unchosen.now) (shapes_by chosen.now)
+            some_choice (is_sought self.now) (drop from self.now.unchosen.now)
+                (shapes_by chosen.now)
             ≡ false }
     {
         self.sig.recall_good();
@@ -142,7 +143,8 @@ impl Search<'_> {
         requires posed { IsPosed self.now }
         requires allowed { AreAllowed self.now.sig.now (shapes_by chosen.now) }
         ensures { result ≡
-            some_choice (is_sought self.now) (drop from self.now.unchosen.now) (shapes_by chosen.now) }
+            some_choice (is_sought self.now) (drop from self.now.unchosen.now)
+                (shapes_by chosen.now) }
     {
         let all = self.unchosen;
         if from == all.len() {
