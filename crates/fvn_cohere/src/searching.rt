@@ -42,6 +42,7 @@ pub(crate) struct Search<'s> {
     pub(crate) unchosen: &'s [(Var, Seq<Shape>)],
 }
 
+/// Whether what stands at the root is a variable.
 pub(crate) fn is_variable_root(root: Root) -> bool
     ensures { result ≡ is_variable_root root }
 {
@@ -52,6 +53,7 @@ pub(crate) fn is_variable_root(root: Root) -> bool
     }
 }
 
+/// Whether what stands at the root is one of these constants.
 pub(crate) fn is_identity_root(es: &[OpId], root: Root) -> bool
     ensures { result ≡ is_identity_root es.now root }
 {
