@@ -24,7 +24,7 @@ fn with_unifier(task: &Task, kept: Vec<Kept>, subst: Subst) -> Result<Vec<Kept>,
     requires member { IsMember task.now.sig.now task.now.problem.now task.now.first subst }
     ensures { IfOk result (λ after.
         IsWith task.now.sig.now task.now.problem.now task.now.vars.now task.now.first kept.items
-            subst after.items) }
+        subst after.items) }
 {
     covering_of_variants_is_a_preorder();
     covering_of_unifiers_is_instance();

@@ -16,7 +16,7 @@ use Rattle.fvn_cmd_unify.specs.Replies.{IsToBeUnified}
 abbrev pub LinesDenoteUnifiers : Type 0
 LinesDenoteUnifiers =
     (m : Contents) (p : Problem) → FitsKinds m.signature → HasVariables m.signature p → (s : Substitution) →
-      Unifies m p s → (line : Text) → IsLineOf m p s line
+    Unifies m p s → (line : Text) → IsLineOf m p s line
     → (r : Substitution) → Denotes m.signature m.names p.names.texts p.vars line r
     → Unifies m p (on_variables p.vars r) × IsInstanceOf m p (on_variables p.vars r) s × IsInstanceOf m p s (on_variables p.vars r)
 

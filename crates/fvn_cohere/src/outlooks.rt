@@ -550,7 +550,7 @@ impl PartialChoice<'_> {
         requires right { IsTerm self.now.sig.now (term right.now) }
         ensures { IsTrue result → ForEachFilled self.now (λ filled.
             is_met self.now.sig.now sought self.now.identities.now
-                (term left.now) (term right.now) filled
+            (term left.now) (term right.now) filled
             ≡ false) }
     {
         let low_side = self.outlook(left);

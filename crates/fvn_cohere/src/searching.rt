@@ -121,7 +121,7 @@ impl Search<'_> {
         requires allowed { AreAllowed self.now.sig.now (shapes_by chosen.now) }
         ensures { IsTrue result →
             some_choice (is_sought self.now) (drop from self.now.unchosen.now)
-                (shapes_by chosen.now)
+            (shapes_by chosen.now)
             ≡ false }
     {
         self.sig.recall_good();
@@ -146,7 +146,7 @@ impl Search<'_> {
         requires allowed { AreAllowed self.now.sig.now (shapes_by chosen.now) }
         ensures { result ≡
             some_choice (is_sought self.now) (drop from self.now.unchosen.now)
-                (shapes_by chosen.now) }
+            (shapes_by chosen.now) }
     {
         let all = self.unchosen;
         if from == all.len() {

@@ -140,7 +140,7 @@ fn fault_along<A: AxiomSolver>(
     ensures { IfOk result (TestedAs tester.now.rewriter (A.drawn tester.now.solver.now)
         (A.most_unifiers tester.now.solver.now)
         (Each (IsJoinedAt tester.now.rewriter tester.now.chosen.now later.now new.now.rule)
-            list.now)) }
+        list.now)) }
 {
     for path in list {
         let fault = fault_at(tester, alloc, new, later, path.as_slice())?;
@@ -238,7 +238,7 @@ pub fn critical_fault<A: AxiomSolver>(
     // Nothing shows confluence where the equations terminate, and each fault shows itself.
     ensures told { IfOk result
         (IsAnswer (rewriting_of sig.now rules.now bounds) (A.drawn solver.now)
-            (A.most_unifiers solver.now)) }
+        (A.most_unifiers solver.now)) }
     // The first equation that loses a sort comes before all else.
     ensures sorts { IfOk result (TellsFirstLoss (rewriting_of sig.now rules.now bounds)) }
     // Confluent equations that lose no sort have no fault but that a limit was met.

@@ -30,6 +30,6 @@ FlattenedPairsAreGiven = (d : Declarations) → FitsKinds d → (problem : Probl
 abbrev pub AnswersToFlattenedPairs : Type 0
 AnswersToFlattenedPairs =
     (d : Declarations) → FitsKinds d → (problem : Problem) → IsProblem d problem → (given : Pairs) →
-      given.pairs ≡ flat_pairs d problem → (r : Solved) → AreUnifiers d given r → AreApart d given r →
-      AreComplete d given r →
+    given.pairs ≡ flat_pairs d problem → (r : Solved) → AreUnifiers d given r → AreApart d given r →
+    AreComplete d given r →
     IsAnswerTo d problem (map substitution r.unifiers) (r.end ≡ Complete)

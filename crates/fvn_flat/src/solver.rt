@@ -111,5 +111,5 @@ pub trait AxiomSolver: Sync {
         // Every other end shows why it came.
         ensures cause { IfOk result
             (HasCause (signature self.now) problem.now (most_unifiers self.now)
-                (most_symbols self.now)) };
+            (most_symbols self.now)) };
 }

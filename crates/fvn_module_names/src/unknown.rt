@@ -114,7 +114,7 @@ fn has_unknown(
 ) -> bool
     ensures { result ≡
         has_unknown v.now.sorts v.now.ops v.now.kinds earlier.now names.now rank.now
-            attributes.now }
+        attributes.now }
 {
     has_unknown_sort(v, rank)
         || any_unknown_identity(v, attributes)

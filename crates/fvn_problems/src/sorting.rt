@@ -297,7 +297,7 @@ fn walk_named<'a>(
 ) -> Result<Walk<'a>, NoMemory>
     ensures { IfOk result (λ next. view next ≡
         step_at signature.now scope.now.names (reverse frames.items) piece.now
-            (Spot.Named name.now)) }
+        (Spot.Named name.now)) }
 {
     if piece.is_special(b"(") {
         return open(frames, Frame::Call(operator(scope, name), Seq::new(alloc)));
@@ -319,7 +319,7 @@ fn walk_bracket<'a>(
 ) -> Walk<'a>
     ensures { view result ≡
         step_at signature.now scope.now.names (reverse frames.items) piece.now
-            (Spot.Bracket first) }
+        (Spot.Bracket first) }
 {
     if piece.is_special(b"]") {
         return walk_at(frames, Spot::Whole(of_sort(or_first(first))));

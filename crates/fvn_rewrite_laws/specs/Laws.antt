@@ -118,19 +118,19 @@ pub record ChoiceLaws (d : Declarations) : Type 0 where
   -- an equation is sort-decreasing exactly where under each choice of sorts and identities its right side has a sort at or below that of its left side
   pub decreasing : (left right : Term) → HasOneKind d (left, right) → ((x : Var) → Occurs x right → Occurs x left) →
       IsSortDecreasing d left right
-        ↔ ((env : Var → Shape) → IsChoice (sort_choices d) left env →
-          AtOrBelow d (shape_in d env right).sort (shape_in d env left).sort)
+      ↔ ((env : Var → Shape) → IsChoice (sort_choices d) left env →
+      AtOrBelow d (shape_in d env right).sort (shape_in d env left).sort)
   -- a choice under which it has not makes an instance that loses a sort
   pub losing : (left right : Term) → HasOneKind d (left, right) → ((x : Var) → Occurs x right → Occurs x left) →
       (env : Var → Shape) → IsChoice (sort_choices d) left env →
-        (AtOrBelow d (shape_in d env right).sort (shape_in d env left).sort → ⊥) → IsLoss d left right
+      (AtOrBelow d (shape_in d env right).sort (shape_in d env left).sort → ⊥) → IsLoss d left right
   -- a term collapses to a variable exactly where some choice of identities gives it the shape of one
   pub to_variable : (t : Term) → IsTerm d t → CollapsesToVariable d t
       ↔ ((env : Var → Shape) × IsChoice (identity_choices d) t env × ((shape_in d env t).root ≡ Variable))
   -- and to an identity exactly where one gives it the shape of an identity
   pub to_identity : (t : Term) → IsTerm d t → CollapsesToIdentity d t
       ↔ ((env : Var → Shape) × IsChoice (identity_choices d) t env
-        × ((e : OpId) × Contains (identities d) e × ((shape_in d env t).root ≡ Constant e)))
+      × ((e : OpId) × Contains (identities d) e × ((shape_in d env t).root ≡ Constant e)))
 
 -- in a good signature with all that its queries need
 abbrev pub ChoicesAreEnough : Type 0
