@@ -50,7 +50,8 @@ fn is_within(v: u64, w: u64) -> bool
 impl Marks {
     /// The marks of so many terms of which the profile was counted, without these operators.
     pub fn of(out: Unkept, profile: &Profile, count: usize) -> Marks
-        ensures marks { (ts : List FlatTerm) → IsProfile ts profile.now → length ts ≡ count → AreMarks ts result }
+        ensures marks { (ts : List FlatTerm) → IsProfile ts profile.now → length ts ≡ count
+            → AreMarks ts result }
         ensures out { result.out ≡ out }
     {
         Marks {
@@ -69,7 +70,8 @@ impl Marks {
 
     // Whether the other has what this one has and an instance keeps, and this one what it cannot gain.
     fn are_within(&self, other: &Marks) -> bool
-        ensures { IsTrue result ↔ (IsWithin self.now.up other.now.up × IsWithin other.now.down self.now.down) }
+        ensures { IsTrue result
+            ↔ (IsWithin self.now.up other.now.up × IsWithin other.now.down self.now.down) }
     {
         // Both words are compared before it is asked what either tells, since which of them refuses cannot be foreseen.
         is_within(self.up, other.up) & is_within(other.down, self.down)
