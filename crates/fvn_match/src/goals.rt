@@ -82,7 +82,8 @@ pub(crate) fn newest<'a>(
     v: Var,
     before: Option<&'a Flat>,
 ) -> Option<&'a Flat>
-    ensures { (b : Bindings) → IsValue b v before.entry → IsValue (with_bindings b pairs.now) v result }
+    ensures { (b : Bindings) → IsValue b v before.entry
+        → IsValue (with_bindings b pairs.now) v result }
 {
     let mut found = before;
     for pair in pairs {
