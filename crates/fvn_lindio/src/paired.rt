@@ -102,8 +102,7 @@ fn add_sum(
 ) -> Result<(), AllocError>
     requires can_add { CanAdd x.now u.now }
     requires ordered { IsOrderedOf (length x.now.parts.items) (vectors_in list.old.items) }
-    ensures ordered { OnOk result
-        (IsOrderedOf (length x.now.parts.items) (vectors_in list.new.items)) }
+    ensures ordered { OnOk result (IsOrderedOf (length x.now.parts.items) (vectors_in list.new.items)) }
     ensures exact { OnOk result (GrowsBy (IsSum x.now u.now)
         (vectors_in list.old.items) (vectors_in list.new.items)) }
 {
@@ -124,8 +123,7 @@ fn add_sums(
 ) -> Result<(), AllocError>
     requires can_add { All (CanAdd x.now) points.now }
     requires ordered { IsOrderedOf (length x.now.parts.items) (vectors_in list.old.items) }
-    ensures ordered { OnOk result
-        (IsOrderedOf (length x.now.parts.items) (vectors_in list.new.items)) }
+    ensures ordered { OnOk result (IsOrderedOf (length x.now.parts.items) (vectors_in list.new.items)) }
     ensures exact { OnOk result (GrowsBy (AnyOf (IsSum x.now) points.now)
         (vectors_in list.old.items) (vectors_in list.new.items)) }
 {
@@ -144,8 +142,7 @@ fn add_from(
 ) -> Result<(), AllocError>
     requires can_add { All (CanAdd x.now) points.now }
     requires ordered { IsOrderedOf (length x.now.parts.items) (vectors_in list.old.items) }
-    ensures ordered { OnOk result
-        (IsOrderedOf (length x.now.parts.items) (vectors_in list.new.items)) }
+    ensures ordered { OnOk result (IsOrderedOf (length x.now.parts.items) (vectors_in list.new.items)) }
     ensures exact { OnOk result (GrowsBy (IsFrom points.now x.now)
         (vectors_in list.old.items) (vectors_in list.new.items)) }
 {
