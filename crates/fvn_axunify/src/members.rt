@@ -23,7 +23,8 @@ fn with_unifier(task: &Task, kept: Vec<Kept>, subst: Subst) -> Result<Vec<Kept>,
         kept.items }
     requires member { IsMember task.now.sig.now task.now.problem.now task.now.first subst }
     ensures { IfOk result (λ after.
-        IsWith task.now.sig.now task.now.problem.now task.now.vars.now task.now.first kept.items subst after.items) }
+        IsWith task.now.sig.now task.now.problem.now task.now.vars.now task.now.first kept.items
+            subst after.items) }
 {
     covering_of_variants_is_a_preorder();
     covering_of_unifiers_is_instance();

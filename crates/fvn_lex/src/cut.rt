@@ -23,6 +23,7 @@ enum Place {
     },
 }
 
+// Whether the byte is white space.
 #[tactic(auto, unfolding(crate::specs::Bytes::is_blank))]
 fn is_blank_byte(byte: u8) -> bool
     ensures { result ≡ is_blank byte }
@@ -30,6 +31,7 @@ fn is_blank_byte(byte: u8) -> bool
     matches!(byte, b'\t' | b'\n' | b'\r' | b' ')
 }
 
+// Whether the byte is a token by itself.
 #[tactic(auto, unfolding(crate::specs::Bytes::is_special))]
 fn is_special_byte(byte: u8) -> bool
     ensures { result ≡ is_special byte }
@@ -37,6 +39,7 @@ fn is_special_byte(byte: u8) -> bool
     matches!(byte, b'(' | b')' | b',' | b'[' | b']' | b'{' | b'}')
 }
 
+// Whether the byte is a printed one of ASCII.
 #[tactic(auto, unfolding(crate::specs::Bytes::is_printed))]
 fn is_printed_byte(byte: u8) -> bool
     ensures { result ≡ is_printed byte }
@@ -52,6 +55,7 @@ fn goes_on_byte(quoted: bool, byte: u8) -> bool
     is_printed_byte(byte) && (quoted || !is_special_byte(byte))
 }
 
+// Whether a comment begins here.
 #[tactic(auto, unfolding(crate::specs::Bytes::begins_comment))]
 fn begins_comment_text(text: &[u8]) -> bool
     ensures { result ≡ begins_comment text.now }
@@ -59,6 +63,7 @@ fn begins_comment_text(text: &[u8]) -> bool
     text.starts_with(b"---") || text.starts_with(b"***")
 }
 
+// Whether a block comment begins here.
 #[tactic(auto, unfolding(crate::specs::Bytes::begins_block))]
 fn begins_block_text(text: &[u8]) -> bool
     ensures { result ≡ begins_block text.now }

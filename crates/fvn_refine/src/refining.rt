@@ -41,7 +41,8 @@ fn lower_value(
     requires sort { IsSort search.now.sig.now x.sort }
     requires bound { IsSome (bound subst.now x) }
     ensures { let d = search.now.sig.now in let xs = search.now.vars.now in
-        IfOk result (λ all. Finds d xs (λ m. HasAbove d rows.items m × IsUnder d xs (value subst.now x) x.sort m) all.items) }
+        IfOk result (λ all. Finds d xs (λ m. HasAbove d rows.items m
+            × IsUnder d xs (value subst.now x) x.sort m) all.items) }
 {
     match subst.get(x) {
         Some(t) => {

@@ -32,6 +32,7 @@ fn row(
     Ok(list)
 }
 
+/// The results over each two sorts, a row for each first one.
 fn rows(
     alloc: Global,
     draft: &Draft,
@@ -49,6 +50,7 @@ fn rows(
     Ok(list)
 }
 
+/// Whether the operator takes two arguments, by its first rank.
 fn takes_two(ranks: &[Rank]) -> bool {
     match ranks.first() {
         Some(rank) => rank.args.len() == 2,

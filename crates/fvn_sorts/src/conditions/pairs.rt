@@ -36,6 +36,7 @@ fn common(alloc: Global, draft: &Draft, x: SortId, y: SortId) -> Result<Vec<Sort
     Ok(list)
 }
 
+/// Whether the sort is at or below one of the list.
 fn is_below_one(draft: &Draft, list: &[SortId], s: SortId) -> bool
     ensures { IsTrue result → IsBelowOne draft.now.declarations list.now s }
 {
@@ -63,6 +64,7 @@ fn thinned(alloc: Global, draft: &Draft, list: &[SortId]) -> Result<Vec<SortId>,
     Ok(kept)
 }
 
+/// The list of one sort.
 fn one(alloc: Global, s: SortId) -> Result<Vec<SortId>, NoMemory>
     ensures { IfOk result (λ v. v.items ≡ s ∷ []) }
 {

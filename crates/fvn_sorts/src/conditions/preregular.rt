@@ -115,6 +115,7 @@ fn advanced(alloc: Global, draft: &Draft, s: SortId, ranks: &[Rank]) -> Result<V
     Ok(all)
 }
 
+/// The list with the sort before it.
 fn preceded(alloc: Global, s: SortId, list: Seq<SortId>) -> Result<Seq<SortId>, NoMemory>
     ensures { IfOk result (λ l. l ≡ s ∷ list) }
 {

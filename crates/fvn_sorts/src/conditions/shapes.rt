@@ -37,6 +37,7 @@ fn have_same_kinds(declarations: &Declarations, some: &[SortId], others: &[SortI
     true
 }
 
+/// Whether the two ranks have arguments and results of the same kinds.
 fn have_one_kind(declarations: &Declarations, one: &Rank, other: &Rank) -> bool
     ensures { IsTrue result ↔ HaveOneKind declarations.now one.now other.now }
 {

@@ -39,6 +39,7 @@ fn declaration_fault(draft: &Draft, collected: &Collected, condition: Condition)
     }
 }
 
+/// The fault that an operator has by the condition.
 fn fault_at(condition: Condition, op: OpId) -> SigFault
     ensures { result ≡ fault_at condition op }
 {
