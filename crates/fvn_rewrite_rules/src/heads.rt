@@ -12,7 +12,8 @@ use fvn_terms::{NoMemory, OpId};
 use std::alloc::Global;
 use std::slice::from_ref;
 
-// Whether a substitution makes the left side of a rule that of another. Where heads tell that none does, nothing is matched.
+// Whether a substitution makes the left side of a rule that of another. Where heads tell that none does, nothing is
+// matched.
 fn has_instance(alloc: Global, sig: &Signature, rule: &Rule, other: &Rule) -> Result<bool, NoMemory>
     requires rule { IsKindedRule sig.now rule.now }
     requires other { IsKindedRule sig.now other.now }
