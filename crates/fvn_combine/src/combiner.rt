@@ -12,11 +12,11 @@ ghost use Rattle.fvn_combine.specs.Work.{work_left};
 ghost use Rattle.fvn_combine.specs.inner.Parts.{search_by, search_of};
 ghost use Rattle.fvn_combine.specs.declared.ending.Ended.{Ended as Cause};
 
+use crate::effort::Effort;
 use crate::ending::{CombineEnd, Ended, told};
 use crate::opened::Leaf;
 use crate::stepping::{Found, next_unifier};
 use crate::task::Task;
-use fvn_combine_drawing::SolvedSystems;
 use fvn_combine_nodes::{node_partitions_are_partitions, unifiers_partition};
 use fvn_combine_systems::node_systems_are_sum_systems;
 use fvn_combine_tree::Tree;
@@ -26,14 +26,14 @@ use fvn_terms::NoMemory;
 use std::alloc::Global;
 use std::marker::Model;
 
-/// A search: what is asked, the decision tree, the leaf that is open, why it has ended, and systems that were solved.
+/// A search: what is asked, the decision tree, the leaf that is open, why it has ended, and what was gone through.
 #[derive(Drop)]
 pub(crate) struct Parts<'a> {
     task: Task<'a>,
     tree: Tree,
     leaf: Option<Leaf>,
     ended: Option<Ended>,
-    solved: SolvedSystems,
+    effort: Effort,
 }
 
 /// All unifiers of a problem on kinds, one after another; every variable is read with its kind.
@@ -67,7 +67,7 @@ fn next_of_parts(
     tree: &mut Tree,
     leaf: &mut Option<Leaf>,
     ended: &mut Option<Ended>,
-    solved: &mut SolvedSystems,
+    effort: &mut Effort,
 ) -> Result<Option<Subst>, CombineEnd>
     requires search { IsSearch (search_by task.now tree.old leaf.old ended.old) }
     requires running { ended.old ≡ None }
@@ -81,7 +81,7 @@ fn next_of_parts(
     node_partitions_are_partitions();
     node_systems_are_sum_systems();
     unifiers_partition();
-    match next_unifier(task, tree, leaf, solved)? {
+    match next_unifier(task, tree, leaf, effort)? {
         Found::Nothing => Ok(None),
         Found::Ends(cause) => {
             let end = told(task.alloc, &cause)?;
@@ -107,7 +107,7 @@ fn next_of(parts: &mut Parts) -> Result<Option<Subst>, CombineEnd>
         &mut parts.tree,
         &mut parts.leaf,
         &mut parts.ended,
-        &mut parts.solved,
+        &mut parts.effort,
     )
 }
 
@@ -183,7 +183,7 @@ impl<'a> Combiner<'a> {
                 tree,
                 leaf: None,
                 ended: None,
-                solved: SolvedSystems::new(alloc),
+                effort: Effort::new(alloc),
             },
         })
     }
@@ -206,5 +206,15 @@ impl<'a> Combiner<'a> {
             return Err(end);
         }
         next_of(&mut self.parts)
+    }
+
+    /// How many states were looked at so far, or the greatest number where there were more.
+    ///
+    /// A state says of some parts of the problem that they are equal and of others that they are not. It is looked at
+    /// once, and again with each fact that is found of it. No clause says how many states there are, and no answer
+    /// depends on it: a search that finds no facts gives the same unifiers, but may look at many times as many. Tests
+    /// hold the number.
+    pub fn states_asked(&self) -> u64 {
+        self.parts.effort.states
     }
 }
