@@ -217,4 +217,11 @@ impl<'a> Combiner<'a> {
     pub fn states_asked(&self) -> u64 {
         self.parts.effort.states
     }
+
+    /// How many choices of minimal solutions were tried so far, or the greatest number where there were more.
+    ///
+    /// Each gives a unifier, nothing, or bindings that are too large. No clause says how many there are either.
+    pub fn choices_tried(&self) -> u64 {
+        self.parts.effort.choices
+    }
 }

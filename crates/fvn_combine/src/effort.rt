@@ -3,11 +3,12 @@
 use fvn_combine_drawing::SolvedSystems;
 use std::alloc::Global;
 
-/// Sum systems that were solved, and how many states were looked at; a state with a new fact is looked at again.
+/// Sum systems that were solved, how many states were looked at, and how many choices were tried.
 #[derive(Drop)]
 pub(crate) struct Effort {
     pub(crate) solved: SolvedSystems,
     pub(crate) states: u64,
+    pub(crate) choices: u64,
 }
 
 impl Effort {
@@ -16,11 +17,17 @@ impl Effort {
         Effort {
             solved: SolvedSystems::new(alloc),
             states: 0,
+            choices: 0,
         }
     }
 
     // One state more is looked at.
     pub(crate) fn count_state(&mut self) {
         self.states = self.states.saturating_add(1);
+    }
+
+    // One choice more is tried.
+    pub(crate) fn count_choice(&mut self) {
+        self.choices = self.choices.saturating_add(1);
     }
 }

@@ -106,7 +106,7 @@ pub(crate) fn next_unifier(
         (left_by task.now tree.new leaf.new)) }
 {
     'steps: loop {
-        match next_in(task, leaf)? {
+        match next_in(task, leaf, effort)? {
             Drawn::Nothing => {}
             Drawn::TooLarge(list) => return Ok(Found::Ends(Ended::Size(list))),
             Drawn::Unifier(g) => return Ok(Found::Given(g)),

@@ -2,7 +2,7 @@
 use super::unifiers::{BAGS, OPERATORS, WITH_ELEMENTS, assert_rows};
 use fvn_terms::NoMemory;
 
-// A problem; how many states the search for its unifiers on kinds looks at, and how many of these it gives, at most.
+// A problem; how many states the search for its unifiers on kinds looks at, and how many choices it tries, at most.
 //
 // A state is looked at again with each fact that is found of it. A term is written with each operator after its
 // arguments. Families of problems come first, each with one size after another: sums with an identity below sums

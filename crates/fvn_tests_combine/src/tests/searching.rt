@@ -22,22 +22,20 @@ fn gives(combiner: &mut Combiner) -> Result<bool, NoMemory> {
     }
 }
 
-/// How many unifiers are given, at most 600.
-fn count_given(combiner: &mut Combiner) -> Result<u64, NoMemory> {
-    let mut given: u64 = 0;
-    for _ in 0..600 {
+/// Goes on to the end, or to the thousandth unifier.
+fn run_through(combiner: &mut Combiner) -> Result<(), NoMemory> {
+    for _ in 0..1000 {
         if !gives(combiner)? {
-            return Ok(given);
+            return Ok(());
         }
-        given = given.saturating_add(1);
     }
-    Ok(given)
+    Ok(())
 }
 
-/// How many states are looked at, and how many unifiers are given.
+/// How many states are looked at, and how many choices are tried.
 fn counted(combiner: &mut Combiner) -> Result<(u64, u64), NoMemory> {
-    let given = count_given(combiner)?;
-    Ok((combiner.states_asked(), given))
+    run_through(combiner)?;
+    Ok((combiner.states_asked(), combiner.choices_tried()))
 }
 
 /// The same of a problem, as a solver has it searched.
@@ -56,8 +54,8 @@ fn is_at_most(number: u64, most: &str) -> bool {
 
 /// That both numbers are at most those that are written, or what they are.
 fn shown_counts(alloc: Global, counts: (u64, u64), most: &str) -> Result<String, NoMemory> {
-    let (states, given) = most.split_once(' ').unwrap_or((most, ""));
-    if is_at_most(counts.0, states) && is_at_most(counts.1, given) {
+    let (states, choices) = most.split_once(' ').unwrap_or((most, ""));
+    if is_at_most(counts.0, states) && is_at_most(counts.1, choices) {
         return Ok(String::from_str(alloc, "few")?);
     }
     Ok(format!(in alloc; "{} {}", counts.0, counts.1)?)
@@ -79,7 +77,7 @@ fn shown_of(
     shown_counts(alloc, counts, most)
 }
 
-/// That a search looks at so many states and gives so many unifiers at most, or how many it does.
+/// That a search looks at so many states and tries so many choices at most, or how many it does.
 pub fn shown_searched(
     alloc: Global,
     sig: &Signature,
