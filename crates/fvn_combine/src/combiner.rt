@@ -170,8 +170,10 @@ impl<'a> Combiner<'a> {
         requires small { symbols_of_pairs problem.now.pairs ≤ TERM_SYMBOLS }
         requires size { size < 2 ^ 64 - 1 }
         ensures of { IfOk result (IsOf sig.now problem.now first_fresh size) }
-        ensures all { IfOk result (λ m. (u : Substitution) → IsKindUnifier sig.now (problem_of problem.now) u
-            → (sorted ≡ true → KeepsSorts sig.now (variables_of (problem_of problem.now)) u) → IsToCome m u) }
+        ensures all { IfOk result (λ m. (u : Substitution)
+            → IsKindUnifier sig.now (problem_of problem.now) u
+            → (sorted ≡ true → KeepsSorts sig.now (variables_of (problem_of problem.now)) u)
+            → IsToCome m u) }
     {
         unifiers_partition();
         let task = Task::new(alloc, sig, problem, first_fresh, size, sorted)?;
@@ -196,9 +198,11 @@ impl<'a> Combiner<'a> {
         ensures same { self.new.combining ≡ self.old.combining }
         ensures advanced { self.old.ended ≡ None → IsAdvanced self.old self.new result }
         // What is left to do falls with each unifier that is given.
-        ensures falls { IfOk result (λ o. IfSome o (λ g. work_left self.new < work_left self.old)) }
+        ensures falls { IfOk result
+            (λ o. IfSome o (λ g. work_left self.new < work_left self.old)) }
         // After an end.
-        ensures again { (e : Cause) → self.old.ended ≡ Some e → IsAgain self.old.combining e result }
+        ensures again { (e : Cause) → self.old.ended ≡ Some e
+            → IsAgain self.old.combining e result }
         ensures stays { (e : Cause) → self.old.ended ≡ Some e → self.new ≡ self.old }
     {
         if let Some(ended) = &self.parts.ended {

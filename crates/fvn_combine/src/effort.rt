@@ -1,4 +1,6 @@
-//! What a search has gone through so far: no part of what is searched, so that no clause speaks of it.
+//! What a search has gone through so far.
+//!
+//! It is no part of what is searched: no clause speaks of it, and no answer depends on it.
 
 use fvn_combine_drawing::SolvedSystems;
 use std::alloc::Global;

@@ -37,10 +37,13 @@ fn next_of_turning(
     turning: &mut Turning,
     effort: &mut Effort,
 ) -> Result<Drawn, NoMemory>
-    requires ready { IsReady task.now.declarations task.now.given task.now.first task.now.table state.now }
-    requires reading { IsReading task.now.declarations task.now.table (class_of state.now) reading.now }
+    requires ready { IsReady task.now.declarations task.now.given task.now.first task.now.table
+        state.now }
+    requires reading { IsReading task.now.declarations task.now.table (class_of state.now)
+        reading.now }
     requires bases { AreBases reading.now.sums bases.now }
-    requires shared { AreSharedClasses task.now.declarations task.now.table (class_of state.now) task.now.sorted shared.now }
+    requires shared { AreSharedClasses task.now.declarations task.now.table (class_of state.now)
+        task.now.sorted shared.now }
     requires turning { IsTurning task.now state.now reading.now bases.now shared.now turning.old }
     ensures turning { IsTurning task.now state.now reading.now bases.now shared.now turning.new }
     ensures fewer { (u : Substitution)
@@ -208,7 +211,8 @@ pub(crate) fn next_in(
         → IsCoveredAt task.now leaf.new u → IsCoveredAt task.now leaf.old u }
     ensures drawn { AreDrawnFrom task.now (IsCoveredAt task.now leaf.old)
         (IsCoveredAt task.now leaf.new) result }
-    ensures falls { IfOk result (LeavesLess (left_at task.now leaf.old) (left_at task.now leaf.new)) }
+    ensures falls { IfOk result
+        (LeavesLess (left_at task.now leaf.old) (left_at task.now leaf.new)) }
 {
     match leaf {
         None => Ok(Drawn::Nothing),
