@@ -68,9 +68,19 @@ search A0 A1 t = B2 => few | 99 99
 search B0 B1 t = g h t => few | 99 99
 search B0 B1 t = A2 A3 t A4 t A5 t A6 t A7 t => few | 99 99";
 
+// Two sums of one sort with different identities, f and g.
+const RINGS: &str =
+    "A; f : -> A; g : -> A; l : A A -> A [assoc comm id: f]; m : A A -> A [assoc comm id: g]";
+
+// The same over these, where nearly every class is added by both.
+const SEARCHED_OF_RINGS: &str = "search A0 A1 l A2 A3 l m A0 m = A0 A2 l A1 A3 l m A1 m => few | 99 99
+search A0 A1 m A2 l A3 m = A2 A3 m A0 l A1 m => few | 99 99
+search A0 A1 A2 m l A1 A0 A3 m l m = A2 A3 m => few | 99 99";
+
 #[test]
 fn searches_stay_short(rt: HostRuntime) -> Result<(), NoMemory> {
     assert_rows(&rt, rt.alloc(), OPERATORS, SEARCHED)?;
     assert_rows(&rt, rt.alloc(), WITH_ELEMENTS, SEARCHED_WITH_ELEMENTS)?;
-    assert_rows(&rt, rt.alloc(), BAGS, SEARCHED_OF_BAGS)
+    assert_rows(&rt, rt.alloc(), BAGS, SEARCHED_OF_BAGS)?;
+    assert_rows(&rt, rt.alloc(), RINGS, SEARCHED_OF_RINGS)
 }
