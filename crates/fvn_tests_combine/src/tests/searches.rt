@@ -73,7 +73,8 @@ const RINGS: &str =
     "A; f : -> A; g : -> A; l : A A -> A [assoc comm id: f]; m : A A -> A [assoc comm id: g]";
 
 // The same over these, where nearly every class is added by both.
-const SEARCHED_OF_RINGS: &str = "search A0 A1 l A2 A3 l m A0 m = A0 A2 l A1 A3 l m A1 m => few | 99 99
+const SEARCHED_OF_RINGS: &str =
+    "search A0 A1 l A2 A3 l m A0 m = A0 A2 l A1 A3 l m A1 m => few | 99 99
 search A0 A1 m A2 l A3 m = A2 A3 m A0 l A1 m => few | 99 99
 search A0 A1 A2 m l A1 A0 A3 m l m = A2 A3 m => few | 99 99";
 

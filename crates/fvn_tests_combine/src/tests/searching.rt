@@ -62,12 +62,7 @@ fn shown_counts(alloc: Global, counts: (u64, u64), most: &str) -> Result<String,
 }
 
 /// The same of pairs, where they may be given.
-fn shown_of(
-    alloc: Global,
-    sig: &Signature,
-    problem: &Pairs,
-    most: &str,
-) -> Result<String, NoMemory>
+fn shown_of(alloc: Global, sig: &Signature, problem: &Pairs, most: &str) -> Result<String, NoMemory>
     requires { All (λ p. Fits sig.now p.0 × Fits sig.now p.1) problem.now.pairs }
 {
     if !is_given(alloc, sig, problem)? {

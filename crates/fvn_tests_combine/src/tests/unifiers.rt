@@ -185,12 +185,7 @@ const SOLVED_OF_BAGS: &str = "100 200 A0 B1 t = g => complete 1
 100 200 B0 B1 t = g h t => complete 4";
 
 /// What is shown of a row: of a search, where its text begins with this word, else of a solver.
-fn shown_row(
-    alloc: Global,
-    sig: &Signature,
-    text: &str,
-    known: &str,
-) -> Result<String, NoMemory> {
+fn shown_row(alloc: Global, sig: &Signature, text: &str, known: &str) -> Result<String, NoMemory> {
     match text.strip_prefix("search ") {
         Some(problem) => shown_searched(alloc, sig, problem, known),
         None => shown_solved(alloc, sig, text, known),
