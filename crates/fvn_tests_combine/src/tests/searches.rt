@@ -74,9 +74,9 @@ const RINGS: &str =
 
 // The same over these, where nearly every class is added by both.
 const SEARCHED_OF_RINGS: &str =
-    "search A0 A1 h A2 A3 h i A0 i = A0 A2 h A1 A3 h i A1 i => few | 99 99
-search A0 A1 i A2 h A3 i = A2 A3 i A0 h A1 i => few | 99 99
-search A0 A1 A2 i h A1 A0 A3 i h i = A2 A3 i => few | 99 99";
+    "search A0 A1 h A2 A3 h i A0 i = A0 A2 h A1 A3 h i A1 i => few | 1120 80
+search A0 A1 i A2 h A3 i = A2 A3 i A0 h A1 i => few | 580 56
+search A0 A1 A2 i h A1 A0 A3 i h i = A2 A3 i => few | 560 130";
 
 #[test]
 fn searches_stay_short(rt: HostRuntime) -> Result<(), NoMemory> {
