@@ -59,7 +59,7 @@ def peak(words, text):
 
 
 def shown_memory(kilobytes):
-    return "" if kilobytes is None else str(kilobytes)
+    return "-" if kilobytes is None else str(kilobytes)
 
 
 def asked_of_fvn(fvn, module, problem):

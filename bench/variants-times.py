@@ -171,7 +171,7 @@ def compared(given, problems):
         counts = {who: answers_of(who, each[0][0]) for who, each in runs.items() if took[who] is not None}
         count = str(counts.get("fvn", "-")) + ("!" if len(set(counts.values())) > 1 else "")
         times = "".join(f"{'over' if ms is None else f'{ms:.1f}':>11}" for ms in took.values())
-        ratio = f"{took['fvn'] / took['Maude']:.2f}" if took["fvn"] is not None and took.get("Maude") else ""
+        ratio = f"{took['fvn'] / took['Maude']:.2f}" if took["fvn"] is not None and took.get("Maude") else "-"
         memory = "".join(f"{shown_memory(peak(*named[who]) if took[who] is not None else None):>11}" for who in named)
         print(f"{problem[0]:7}{problem[1]:10}{count:>8}{times}{ratio:>7}{memory}  {shown(problem)}", flush=True)
 
