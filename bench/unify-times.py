@@ -5,8 +5,8 @@
 
 Each problem of bench/unify/problems.py is solved by both, N times in turn, and by another fvn where `--before` names one, and by
 Maude's `unify`, which keeps instances of others, with `--plain`. Printed is a table: the number of answers, the bytes that fvn
-printed, the median milliseconds of processor time of each net of start-up (measured on a problem of two constants), the ratio of
-fvn to Maude, and the peak memory of both, each in one more run under GNU time. A `!` marks different numbers of answers; a program
+printed, the median milliseconds of processor time of each net of start-up (a problem of two constants, in turn with the others), the
+ratio of fvn to Maude, and the peak memory of both, each in one more run under GNU time. A `!` marks different numbers of answers; a program
 that takes too long is asked once. Where Maude (`FVN_MAUDE`, or `maude`) is missing, fvn alone is timed.
 """
 
@@ -110,11 +110,13 @@ def net(runs, start):
     return None if None in runs else max(statistics.median(r[1] for r in runs) - start, 0.00005) * 1000
 
 
-def row(named, start, module, problem, given):
-    """The cells of a problem behind its name."""
-    found = times_of(named, module, problem, given.repeat, given.seconds)
-    took = {who: net(runs, start[who]) for who, runs in found.items()}
-    told = {who: answers_of(who, runs[0][0]) for who, runs in found.items() if took[who] is not None}
+def row(named, module, same, problem, given):
+    """The cells of a problem behind its name: its runs in turn with those of a problem that takes no time."""
+    both = {who + " alone": (lambda module, _, asked=asked: asked(module, same)) for who, asked in named.items()}
+    found = times_of({**both, **named}, module, problem, given.repeat, given.seconds)
+    start = {who: statistics.median(it[1] for it in found[who + " alone"]) for who in named}
+    took = {who: net(found[who], start[who]) for who in named}
+    told = {who: answers_of(who, found[who][0][0]) for who in named if took[who] is not None}
     answers = next(iter(told.values()), "none")
     if any(count != answers for who, count in told.items() if who != "plain"):
         answers += " !"
@@ -137,20 +139,14 @@ def main():
     named = programs(given)
     heads = ["family", "size", "answers", "bytes", *named, "ratio", "fvn kB", "Maude kB"]
     print("| " + " | ".join(heads) + " |\n" + "|---" * len(heads) + "|")
-    start = {}
     for family, name, sizes in FAMILIES:
         if given.only and not any(word in family for word in given.only):
             continue
         module = (HERE / "unify" / f"{name}.maude").read_text()
         constant = {"evens": "0", "fruit": "apple", "parity": "0", "places": "ready"}.get(name, "a")
-        if name not in start:
-            begun = times_of(named, module, f"{constant} =? {constant}", 5, 60)
-            start[name] = {who: statistics.median(it[1] for it in runs) for who, runs in begun.items()}
         for size, problem in sizes.items():
-            cells = row(named, start[name], module, problem, given)
+            cells = row(named, module, f"{constant} =? {constant}", problem, given)
             print("| " + " | ".join([family, str(size), *cells]) + " |", flush=True)
-    for name, each in start.items():
-        print(f"start-up of {name}, ms: " + ", ".join(f"{who} {1000 * seconds:.1f}" for who, seconds in each.items()))
 
 
 if __name__ == "__main__":

@@ -5,8 +5,8 @@
     bench/variants-times.py --clock N [--fvn FVN] [--only WORD]... [--repeat N] [--seconds N]
 
 The modules are those of examples/accepted, and one with an operator more; Maude is given the rules for parts of sums besides, which
-fvn adds by itself. Printed is a table: the number of answers, the median milliseconds of processor time of each net of start-up,
-their ratio, and the peak memory of each, in one more run under GNU time. A `!` marks different numbers of answers; a program that
+fvn adds by itself. Printed is a table: the number of answers, the median milliseconds of processor time of each net of a start alone (in
+turn with them), their ratio, and the peak memory of each, in one more run under GNU time. A `!` marks different numbers of answers; a program that
 takes too long is asked once, and one is asked no more of a problem after 20 s of it. Where Maude (`FVN_MAUDE`, or `maude`) is
 missing, fvn alone is timed. With `--clock N` fvn alone is timed by the clock, with its start-up, with one worker and with N in turn:
 the medians and the least of each, and the ratio of the medians; a `!` marks other bytes.
@@ -154,26 +154,32 @@ def net(runs, start):
     return None if None in runs else max(statistics.median(it[1] for it in runs) - start, 0) * 1000
 
 
+def row(given, maude, begun, problem):
+    """The line of a problem: its runs in turn with those of a start alone."""
+    named = asked(given, maude, problem)
+    starts = {who + " alone": begun[who] for who in named}
+    runs = in_turn({**starts, **named}, given.repeat, given.seconds)
+    start = {who: statistics.median(it[1] for it in runs[who + " alone"]) for who in named}
+    took = {who: net(runs[who], start[who]) for who in named}
+    counts = {who: answers_of(who, runs[who][0][0]) for who in named if took[who] is not None}
+    count = str(counts.get("fvn", "-")) + ("!" if len(set(counts.values())) > 1 else "")
+    times = "".join(f"{'over' if ms is None else f'{ms:.1f}':>11}" for ms in took.values())
+    ratio = f"{took['fvn'] / took['Maude']:.2f}" if took["fvn"] is not None and took.get("Maude") else "-"
+    memory = "".join(f"{shown_memory(peak(*named[who]) if took[who] is not None else None):>11}" for who in named)
+    return f"{problem[0]:7}{problem[1]:10}{count:>8}{times}{ratio:>7}{memory}  {shown(problem)}"
+
+
 def compared(given, problems):
     """The table of processor time and memory."""
     maude = os.environ.get("FVN_MAUDE", "maude").split()
     maude = maude + ["-no-prelude", "-no-banner", "-no-advise", "-no-ansi-color", "-interactive"] if shutil.which(maude[0]) else None
     begun = {"fvn": ([given.fvn, "check"], EMPTY), "before": ([given.before or given.fvn, "check"], EMPTY), "Maude": (maude, EMPTY + "quit\n")}
     named = asked(given, maude, PROBLEMS[0])
-    start = {who: statistics.median(it[1] for it in runs) for who, runs in in_turn({who: begun[who] for who in named}, 9, 60).items()}
-    print("start-up, ms and kB: " + ", ".join(f"{who} {1000 * it:.1f} {shown_memory(peak(*begun[who]))}" for who, it in start.items()))
+    print("peak memory of a start alone, kB: " + ", ".join(f"{who} {shown_memory(peak(*begun[who]))}" for who in named))
     columns = "".join(f"{who + ' ms':>11}" for who in named) + f"{'ratio':>7}" + "".join(f"{who + ' kB':>11}" for who in named)
     print(f"{'module':7}{'command':10}{'answers':>8}{columns}  term or problem")
     for problem in problems:
-        named = asked(given, maude, problem)
-        runs = in_turn(named, given.repeat, given.seconds)
-        took = {who: net(each, start[who]) for who, each in runs.items()}
-        counts = {who: answers_of(who, each[0][0]) for who, each in runs.items() if took[who] is not None}
-        count = str(counts.get("fvn", "-")) + ("!" if len(set(counts.values())) > 1 else "")
-        times = "".join(f"{'over' if ms is None else f'{ms:.1f}':>11}" for ms in took.values())
-        ratio = f"{took['fvn'] / took['Maude']:.2f}" if took["fvn"] is not None and took.get("Maude") else "-"
-        memory = "".join(f"{shown_memory(peak(*named[who]) if took[who] is not None else None):>11}" for who in named)
-        print(f"{problem[0]:7}{problem[1]:10}{count:>8}{times}{ratio:>7}{memory}  {shown(problem)}", flush=True)
+        print(row(given, maude, begun, problem), flush=True)
 
 
 def by_the_clock(given, problems):
