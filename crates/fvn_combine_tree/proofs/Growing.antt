@@ -280,6 +280,7 @@ module _ (d : Declarations) (t : NodeTable) where
         was = was;
         is = taken_on_after;
         kept = λ class h. (left_kept top Holds r answer class h).0;
+        holds = λ class h. (left_kept top Holds r answer class h).1;
         all = λ class partition h e. left_all top Holds r answer class partition h e;
       }
 

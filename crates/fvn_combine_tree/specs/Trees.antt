@@ -59,7 +59,8 @@ pub record IsTakenOn (d : Declarations) (t : NodeTable) (Holds : (ℕ → ℕ) �
   pub left : List State
   pub was : before ≡ below ++ top ∷ []
   pub is : after ≡ below ++ left
-  -- what is left has what the last state had
+  -- what is left has what the last state had, and the fact
   pub kept : (class : ℕ → ℕ) → IsToCome left class → Admits top class
+  pub holds : (class : ℕ → ℕ) → IsToCome left class → Holds class
   -- each partition that the last state admits is admitted by it, where the fact holds
   pub all : (class : ℕ → ℕ) → IsNodePartition d t class → Admits top class → Holds class → IsToCome left class

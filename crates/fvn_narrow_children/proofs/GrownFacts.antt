@@ -55,8 +55,13 @@ module _ (r : Rewriting) (v : Variant) (members : List FlatTerm) (unifiers : Lis
       grown_lost l = record { made = so_far.made; dealt_with = one_more children so_far.dealt_with (inr l) }
 
       -- an end
-      pub grown_stopped : (end : ExpandEnd) → StopsAt r (IsRaw r v members s) end → (end ≡ Whole → ⊥) → AreGrown r v members unifiers record { children = children; end = end }
-      grown_stopped end h other = record { children = so_far.made; whole = λ e. absurd (other e); cause = inr (s, listed, h) }
+      pub grown_stopped : (end : ExpandEnd) → StopsAt r (IsRaw r v members s) end → (IsLost r v members s → ⊥) → (end ≡ Whole → ⊥) → AreGrown r v members unifiers record { children = children; end = end }
+      grown_stopped end h kept other = record {
+        children = so_far.made;
+        whole = λ e. absurd (other e);
+        cause = inr (s, listed, h);
+        kept = inr (s, listed, (h, kept));
+      }
 
     -- all unifiers
     pub grown_whole : length unifiers ≤ i → AreGrown r v members unifiers record { children = children; end = Whole }
@@ -64,6 +69,7 @@ module _ (r : Rewriting) (v : Variant) (members : List FlatTerm) (unifiers : Lis
       children = so_far.made;
       whole = λ e. subst (All (λ s. IsDealtWith r v members s children)) (take_all i unifiers end) so_far.dealt_with;
       cause = inl refl;
+      kept = inl refl;
     }
 
 -- what stops is no whole end
@@ -84,7 +90,7 @@ module _ (r : Rewriting) (v : Variant) (members : List FlatTerm) (unifiers : Lis
   taken_stopped (Stopped other) h after stop end e t =
       let q : other ≡ end = same_end other end (sym t.1 ∙ e) in
       subst (λ l. AreGrown r v members unifiers record { children = l; end = end }) (sym t.0)
-      (subst (λ o. AreGrown r v members unifiers record { children = before; end = o }) q (grown_stopped r v members unifiers i before so_far s low is other h (stops_not_whole r (IsRaw r v members s) other h)))
+      (subst (λ o. AreGrown r v members unifiers record { children = before; end = o }) q (grown_stopped r v members unifiers i before so_far s low is other h.0 h.1 (stops_not_whole r (IsRaw r v members s) other h.0)))
     where
       same_end : (a b : ExpandEnd) → Some a ≡ Some b → a ≡ b
       same_end a b k = cc

@@ -12,7 +12,7 @@ use Rattle.fvn_narrow_children.specs.Growing.{IsFormOf, IsUnrested, IsOverlarge}
 
 module _ (r : Rewriting) where
   pub form_of : (t u : FlatTerm) → IsForm r.signature (equations_by r) t r.bounds u → IsFormOf r t u
-  form_of t u f = record { count = f.reached.count; reached = f.reached.reached; irreducible = f.irreducible }
+  form_of t u f = record { count = f.reached.count; reached = f.reached.reached; irreducible = f.irreducible; small = f.small }
 
   pub unrested : (Told : FlatTerm → Type 0) (t start end : FlatTerm) → Told t → IsUnfinished r.signature (equations_by r) t r.bounds start end → IsUnrested r Told start end
   unrested Told t start end told f = record {

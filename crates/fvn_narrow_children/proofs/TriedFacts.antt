@@ -5,14 +5,15 @@ use Rattle.std.proofs.lemmas.List.Elements.{All-contains}
 use Rattle.fvn_terms.specs.declared.plain.Var.{Var}
 use Rattle.fvn_terms.specs.Signature.{kind, IsSort}
 use Rattle.fvn_terms.specs.Places.{stop}
-use Rattle.fvn_terms.specs.Rewriting.{IsReducible}
+use Rattle.fvn_terms.specs.Rewriting.{IsReducible, IsIrreducible}
 use Rattle.fvn_forms.specs.Flat.{FlatTerm, plain, symbols}
 use Rattle.fvn_flat.specs.Bindings.{Bindings, value}
 use Rattle.fvn_flat.specs.Fits.{Fits}
+use Rattle.fvn_flat.specs.Solving.{substitution}
 use Rattle.fvn_cover.specs.declared.variant.Variant.{Variant}
 use Rattle.fvn_cover.specs.Covering.{IsFlatVariant}
 use Rattle.fvn_rewrite.specs.Usable.{Rewriting, equations_by}
-use Rattle.fvn_narrow_children.specs.Values.{AreValuesUnder, IsLargeValue, HaveReducible}
+use Rattle.fvn_narrow_children.specs.Values.{AreValuesUnder, IsLargeValue, AreIrreducible, HaveReducible}
 use Rattle.fvn_narrow_children.specs.Growing.{IsRaw, IsLost, IsOverlarge}
 
 module _ (r : Rewriting) (v : Variant) (members : List FlatTerm) (s own : Bindings) where
@@ -22,6 +23,13 @@ module _ (r : Rewriting) (v : Variant) (members : List FlatTerm) (s own : Bindin
     listed = h.listed;
     reducible = subst (λ t. IsReducible r.signature (equations_by r) (plain t)) (values.values h.variable h.listed) h.reducible;
   }
+
+  -- where no value is reducible
+  pub not_lost : AreValuesUnder r.signature v s own → AreIrreducible r.signature (equations_by r) v.vars own → IsLost r v members s → ⊥
+  not_lost values irreducible l =
+      let there : IsIrreducible r.signature (equations_by r) (substitution own l.variable) = All-contains (λ (x : Var). IsIrreducible r.signature (equations_by r) (substitution own x)) v.vars l.variable irreducible l.listed in
+      let moved : IsReducible r.signature (equations_by r) (substitution own l.variable) = subst (λ t. IsReducible r.signature (equations_by r) (plain t)) (sym (values.values l.variable l.listed)) l.reducible in
+      there moved.0 moved.1
 
   value_fits : IsFlatVariant r.signature v → AreValuesUnder r.signature v s own → (x : Var) → Contains v.vars x → Fits r.signature (value own x)
   value_fits flat values x c = record {

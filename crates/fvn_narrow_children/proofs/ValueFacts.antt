@@ -1,5 +1,5 @@
 -- Values under a substitution, and which of them are reducible.
-use Rattle.std.proofs.Common.{◌≡◌, ◌<◌, ◌-◌, ◌^◌, ℕ, Bool, true, false, List, None, Some, refl, sym, ap, ◌∙◌, subst, arith}
+use Rattle.std.proofs.Common.{◌≡◌, ◌≤◌, ◌<◌, ◌-◌, ◌^◌, ℕ, Bool, true, false, List, None, Some, refl, sym, ap, ◌∙◌, subst, arith}
 use Rattle.std.specs.Prelude.{Contains, min, IsTrue}
 use Rattle.fvn_terms.specs.declared.plain.Var.{Var}
 use Rattle.fvn_terms.specs.declared.declarations.Declarations.{Declarations}
@@ -12,8 +12,8 @@ use Rattle.fvn_flat.specs.Solving.{substitution}
 use Rattle.fvn_flat.proofs.Composing.{value-composed, restriction_fits}
 use Rattle.fvn_cover.specs.declared.variant.Variant.{Variant}
 use Rattle.fvn_rewrite_coherence.specs.Laws.{CoherenceLaws}
-use Rattle.fvn_rewrite_laws.specs.Normalised.{IsNormalForm}
-use Rattle.fvn_narrow_children.specs.Values.{AreValuesUnder, IsLargeValue, ReducibleAs}
+use Rattle.fvn_rewrite_laws.specs.Normalised.{counted, IsNormalForm}
+use Rattle.fvn_narrow_children.specs.Values.{AreValuesUnder, IsLargeValue, IsLargeAt, IsSmallAt, ReducibleAs}
 
 pub values_of_restriction : (d : Declarations) (v : Variant) (s all r : Bindings) → all ≡ composed d v.subst s → BindingsFit d all → IsRestriction v.vars all r → AreValuesUnder d v s r
 values_of_restriction d v s all r is fits own = record {
@@ -23,13 +23,26 @@ values_of_restriction d v s all r is fits own = record {
 }
 
 -- a bound form with too many symbols
-pub large_value_is : (vars : List Var) (s : Bindings) (size counted : ℕ) (x : Var) (t u : FlatTerm) → Contains vars x → bound s x ≡ Some t → u ≡ t → counted ≡ min (symbols t) (2 ^ 64 - 1) → size < counted → IsLargeValue vars s size u
-large_value_is vars s size counted x t u listed is copy count large = record {
-  variable = x;
-  listed = listed;
+pub large_at_is : (s : Bindings) (size number : ℕ) (x : Var) (t u : FlatTerm) → bound s x ≡ Some t → u ≡ t → number ≡ min (symbols t) (2 ^ 64 - 1) → size < number → IsLargeAt s size x u
+large_at_is s size number x t u is copy count large = record {
   is = copy ∙ sym (ap (form_or x) is);
   large = subst (λ w. size < symbols w) (sym copy) (omega arith);
 }
+
+-- one of the listed variables
+pub large_listed : (vars : List Var) (s : Bindings) (size : ℕ) (x : Var) (t : FlatTerm) → Contains vars x → IsLargeAt s size x t → IsLargeValue vars s size t
+large_listed vars s size x t listed l = record { variable = x; listed = listed; is = l.is; large = l.large }
+
+same_form : (t u : FlatTerm) → Some t ≡ Some u → t ≡ u
+same_form t u k = cc
+
+-- a bound form with no more
+pub small_at_is : (s : Bindings) (size number : ℕ) (x : Var) (t : FlatTerm) → bound s x ≡ Some t → number ≡ min (symbols t) (2 ^ 64 - 1) → number ≤ size → IsSmallAt s size x
+small_at_is s size number x t is count small u e = subst (λ w. counted w ≤ size) (same_form t u (sym is ∙ e)) (subst (λ n. n ≤ size) count small)
+
+-- no form
+pub unbound_is_small : (s : Bindings) (size : ℕ) (x : Var) → bound s x ≡ None → IsSmallAt s size x
+unbound_is_small s size x is t e = let q : None ≡ Some t = sym is ∙ e in cc
 
 module _ (d : Declarations) (equations : Equations) where
   -- what a test tells

@@ -1,5 +1,5 @@
 -- Values of a variant's variables: their instances, and which are reducible.
-use Rattle.std.specs.Prelude.{◌≡◌, ◌<◌, ℕ, Bool, true, false, List, All, Contains, None}
+use Rattle.std.specs.Prelude.{◌≡◌, ◌≤◌, ◌<◌, ℕ, Bool, true, false, List, All, Contains, None, Some}
 use Rattle.fvn_terms.specs.declared.plain.Var.{Var}
 use Rattle.fvn_terms.specs.declared.declarations.Declarations.{Declarations}
 use Rattle.fvn_terms.specs.Term.{Term}
@@ -9,6 +9,7 @@ use Rattle.fvn_forms.specs.Flat.{FlatTerm, symbols}
 use Rattle.fvn_forms.specs.Canon.{inst}
 use Rattle.fvn_flat.specs.Bindings.{Bindings, bound, value, BindingsFit}
 use Rattle.fvn_flat.specs.Solving.{substitution}
+use Rattle.fvn_rewrite_laws.specs.Normalised.{counted}
 use Rattle.fvn_cover.specs.declared.variant.Variant.{Variant}
 
 -- r has, for each variable of the variant, the instance of its value, and no other pair
@@ -23,6 +24,19 @@ pub record IsLargeValue (vars : List Var) (s : Bindings) (size : ℕ) (t : FlatT
   pub listed : Contains vars variable
   pub is : t ≡ value s variable
   pub large : size < symbols t
+
+-- the form is the value of the variable, and has over so many symbols
+pub record IsLargeAt (s : Bindings) (size : ℕ) (x : Var) (t : FlatTerm) : Type 0 where
+  pub is : t ≡ value s x
+  pub large : size < symbols t
+
+-- the variable is bound to no form with over so many symbols, as they are counted
+abbrev pub IsSmallAt : Bindings → ℕ → Var → Type 0
+IsSmallAt s size x = (t : FlatTerm) → bound s x ≡ Some t → counted t ≤ size
+
+-- none of these variables is
+abbrev pub AreSmallValues : List Var → Bindings → ℕ → Type 0
+AreSmallValues vars s size = All (IsSmallAt s size) vars
 
 module _ (d : Declarations) (equations : Equations) where
   -- whether a step leads on from the term

@@ -5,8 +5,8 @@ ghost use Rattle.fvn_flat.specs.Fits.{AllFit};
 ghost use Rattle.fvn_cover.specs.Covering.{IsFlatVariant};
 ghost use Rattle.fvn_rewrite.specs.Usable.{equations_by};
 ghost use Rattle.fvn_exploring.specs.declared.ends.ExpandEnd.TheVariants.{Whole};
-ghost use Rattle.fvn_narrow_children.specs.Values.{AreValuesUnder, AreIrreducible};
-ghost use Rattle.fvn_narrow_children.specs.Growing.{AreGrown};
+ghost use Rattle.fvn_narrow_children.specs.Values.{AreValuesUnder, AreSmallValues, AreIrreducible};
+ghost use Rattle.fvn_narrow_children.specs.Growing.{AreGrown, IsLost};
 ghost use Rattle.fvn_narrow_children.specs.inner.Outcomes.{OutcomeAs, IsTaken};
 ghost use Rattle.fvn_narrow_children.specs.inner.Renaming.{value_variables};
 
@@ -53,6 +53,8 @@ fn with_terms(
     requires unifier { BindingsFit rewriter.now.signature s.now }
     requires members { AllFit rewriter.now.signature members.now }
     requires values { AreValuesUnder rewriter.now.signature v.now s.now subst }
+    requires small { AreSmallValues v.now.vars subst rewriter.now.bounds.size }
+    requires kept { IsLost rewriter.now v.now members.now s.now → ⊥ }
     requires irreducible { AreIrreducible rewriter.now.signature (equations_by rewriter.now)
         v.now.vars subst }
     ensures { IfOk result (OutcomeAs rewriter.now v.now members.now s.now) }

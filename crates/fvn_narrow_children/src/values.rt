@@ -1,5 +1,5 @@
 //! What becomes of a variant's terms and values under a substitution, and whether a value is reducible.
-ghost use Rattle.std.specs.Prelude.{◌≡◌, map, All, IsTrue, IfOk, IfSome};
+ghost use Rattle.std.specs.Prelude.{◌≡◌, map, All, IsTrue, IfOk, MatchOption};
 ghost use Rattle.fvn_terms.specs.Signature.{IsSort};
 ghost use Rattle.fvn_forms.specs.Flat.{plain};
 ghost use Rattle.fvn_forms.specs.Canon.{inst};
@@ -8,7 +8,8 @@ ghost use Rattle.fvn_flat.specs.Fits.{Fits, AllFit};
 ghost use Rattle.fvn_flat.specs.Solving.{substitution};
 ghost use Rattle.fvn_rewrite.specs.Usable.{equations_by};
 ghost use Rattle.fvn_narrow_children.specs.inner.Binding.{bound_variables};
-ghost use Rattle.fvn_narrow_children.specs.Values.{AreValuesUnder, IsLargeValue, ReducibleAs, AreIrreducible, HaveReducible, AreReducibleAs};
+ghost use Rattle.fvn_narrow_children.specs.Values.{AreValuesUnder, IsLargeValue, IsLargeAt, IsSmallAt, AreSmallValues};
+ghost use Rattle.fvn_narrow_children.specs.Values.{ReducibleAs, AreIrreducible, HaveReducible, AreReducibleAs};
 
 use fvn_cover::Variant;
 use fvn_flat::{Flat, Subst};
@@ -75,6 +76,22 @@ pub(crate) fn values_under(
     Ok(own)
 }
 
+// The value of the variable, where it has too many symbols.
+fn large_at(alloc: Global, s: &Subst, x: Var, size: u64) -> Result<Option<Flat>, NoMemory>
+    ensures { IfOk result (λ o. MatchOption o (IsSmallAt s.now size x) (IsLargeAt s.now size x)) }
+{
+    match s.get(x) {
+        Some(t) => {
+            if t.size() > size {
+                let copy = t.copy(alloc)?;
+                return Ok(Some(copy));
+            }
+            Ok(None)
+        }
+        None => Ok(None),
+    }
+}
+
 // A value with too many symbols.
 pub(crate) fn large_value(
     alloc: Global,
@@ -82,17 +99,13 @@ pub(crate) fn large_value(
     s: &Subst,
     size: u64,
 ) -> Result<Option<Flat>, NoMemory>
-    ensures { IfOk result (λ o. IfSome o (IsLargeValue vars.now s.now size)) }
+    ensures { IfOk result (λ o. MatchOption o
+        (AreSmallValues vars.now s.now size) (IsLargeValue vars.now s.now size)) }
 {
     for x in vars {
-        match s.get(*x) {
-            Some(t) => {
-                if t.size() > size {
-                    let copy = t.copy(alloc)?;
-                    return Ok(Some(copy));
-                }
-            }
-            None => {}
+        let found = large_at(alloc, s, *x, size)?;
+        if let Some(t) = found {
+            return Ok(Some(t));
         }
     }
     Ok(None)
@@ -168,7 +181,8 @@ pub fn some_reducible(
 ) -> Result<bool, NoMemory>
     requires sorts { All (λ x. IsSort rewriter.now.signature x.sort) vars.now }
     requires values { BindingsFit rewriter.now.signature new.now }
-    requires old { AreIrreducible rewriter.now.signature (equations_by rewriter.now) vars.now old.now }
+    requires old { AreIrreducible rewriter.now.signature
+        (equations_by rewriter.now) vars.now old.now }
     ensures { IfOk result
         (AreReducibleAs rewriter.now.signature (equations_by rewriter.now) vars.now new.now) }
 {

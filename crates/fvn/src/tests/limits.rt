@@ -235,6 +235,15 @@ vunify | g(f(f(f(~123%g(~a~123%)~)))) =? X ==> 5 | bound size 1000
 verify | g(f(f(f(~123%g(~a~123%)~)))) =? a | {} ==> 1 | no 1
 verify | g(g(f(f(f(~123%g(~a~123%)~))))) =? a | {} ==> 5 | bound size 1000
 
+fmod WIDE is sort S . op a : -> S . ops f g h : S -> S . op p : S S S -> S . vars X Y Z : S . eq f(p(X,X,X)) = g(X) [variant] . eq g(~332%h(~a~332%)~) = a [variant] . endfm <=
+variants | f(X) ==> 0 | 3 lines | complete 3
+
+fmod WIDE is sort S . op a : -> S . ops f g h : S -> S . op p : S S S -> S . vars X Y Z : S . eq f(p(X,X,X)) = g(X) [variant] . eq g(~333%h(~a~333%)~) = a [variant] . endfm <=
+variants | f(X) ==> 5 | f(#1:S) {X:S --> #1:S} | g(#1:S) {X:S --> p(#1:S,#1:S,#1:S)} | bound size 1000
+
+fmod WIDE is sort S . op a : -> S . ops f g h : S -> S . op p : S S S -> S . vars X Y Z : S . eq f(p(X,X,X)) = g(X) [variant] . eq g(~333%h(~a~333%)~) = a [variant] . eq p(h(X),Y,Z) = a [variant] . endfm <=
+variants | f(X) ==> 0 | f(#1:S) {X:S --> #1:S} | g(#1:S) {X:S --> p(#1:S,#1:S,#1:S)} | complete 2
+
 fmod PLUS is sort Nat . op 0 : -> Nat . op s : Nat -> Nat . op + : Nat Nat -> Nat . vars X Y : Nat . eq +(0,Y) = Y [variant] . eq +(s(X),Y) = s(+(X,Y)) [variant] . endfm <=
 variants | +(s(s(s(0))),0) | --steps | 4 ==> 0 | s(s(s(0))) {} | complete 1
 variants | +(s(s(s(0))),0) | --steps | 3 ==> 5 | bound steps 3 +(s(s(s(0))),0)

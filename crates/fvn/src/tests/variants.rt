@@ -46,6 +46,9 @@ vunify | f(a) =? a ==> 5 | bound steps 10000 f(a)
 fmod GROW is sort S . op a : -> S . op g : S -> S . op p : S S -> S . var X : S . eq g(X) = g(p(X,X)) [variant] . endfm <=
 variants | g(a) ==> 5 | bound size 1000
 
+fmod LOST is sort S . op a : -> S . ops f g h : S -> S . op p : S S S -> S . vars X Y Z : S . eq f(p(X,X,X)) = g(X) [variant] . eq g(h(X)) = g(h(X)) [variant] . eq p(h(X),Y,Z) = a [variant] . endfm <=
+variants | f(X) ==> 0 | f(#1:S) {X:S --> #1:S} | g(#1:S) {X:S --> p(#1:S,#1:S,#1:S)} | complete 2
+
 fmod NOPRE is sorts A B C . subsorts A < B . subsorts A < C . op f : B -> B . op f : C -> C . endfm <=
 variants | f(X) ==> 3 | module 9.6 f A
 vunify | X =? a ==> 3 | module 9.6 f A

@@ -9,11 +9,11 @@ use Rattle.fvn_narrow_children.specs.declared.growing.Outcome.{Outcome}
 use Rattle.fvn_narrow_children.specs.declared.growing.Outcome.TheVariants.{Child, Lost, Stopped}
 use Rattle.fvn_narrow_children.specs.Growing.{IsRaw, IsGrown, IsLost, StopsAt}
 
--- a child, none since a value is reducible, or an end
+-- a child, none since a value is reducible, or an end where no value is
 abbrev pub OutcomeAs : Rewriting → Variant → List FlatTerm → Bindings → Outcome → Type 0
 OutcomeAs r v members s (Child c) = IsGrown r v members s c
 OutcomeAs r v members s Lost = IsLost r v members s
-OutcomeAs r v members s (Stopped end) = StopsAt r (IsRaw r v members s) end
+OutcomeAs r v members s (Stopped end) = StopsAt r (IsRaw r v members s) end × (IsLost r v members s → ⊥)
 
 -- the children with what came of one more unifier, and the end at which it stopped
 abbrev pub IsTaken : List Variant → Outcome → List Variant → Option ExpandEnd → Type 0

@@ -17,7 +17,9 @@ use std::alloc::Global;
 use std::process::Abort;
 use std::string::String;
 
-// Each line has the name of a module and its statements, among them operators `from` and `to` over variables X and Y.
+// Each line has the name of a module and its statements, among them operators `from` and `to` over variables X and Y. Of
+// two equations whose left sides differ in the names of variables alone, the one with the smaller right side is kept, or
+// of two as large the first; of two that overlap, the first is tried first.
 const MODULES: &str =
     "PLUS sort Nat . op 0 : -> Nat . op s : Nat -> Nat . op + : Nat Nat -> Nat . ops from to : Nat Nat -> Nat . vars X Y : Nat . eq +(0,Y) = Y [variant] . eq +(s(X),Y) = s(+(X,Y)) [variant] .
 XORN sorts Nat NatSet . subsort Nat < NatSet . op 0 : -> Nat . op s : Nat -> Nat . op mt : -> NatSet . op _*_ : NatSet NatSet -> NatSet [assoc comm] . ops from to : NatSet NatSet -> NatSet . vars X Y : [NatSet] . eq _*_(X,X) = mt [variant] . eq _*_(X,mt) = X [variant] .
@@ -27,6 +29,10 @@ ENC sorts Msg Key . op a : -> Msg . op k : -> Key . ops enc dec : Msg Key -> Msg
 GROUP sort S . op 1 : -> S . op * : S S -> S [assoc comm id: 1] . op - : S -> S . ops from to : S S -> S . vars X Y : S . eq *(X,-(X)) = 1 [variant] . eq -(1) = 1 [variant] . eq -(-(X)) = X [variant] .
 COMM sort S . ops a b : -> S . op c : S S -> S [comm] . ops from to : S S -> S . vars X Y : S . eq c(X,a) = X [variant] .
 SORTED sorts A B . subsort A < B . op a : -> A . op b : -> B . op g : B -> B . ops from to : B B -> B . vars X Y : B . var Z : A . eq g(Z) = Z [variant] .
+LARGE sort S . op a : -> S . ops f s t : S -> S . ops from to : S S -> S . vars X Y : S . eq f(X) = s(X) [variant] . eq f(Y) = Y [variant] .
+SMALL sort S . op a : -> S . ops f s t : S -> S . ops from to : S S -> S . vars X Y : S . eq f(Y) = Y [variant] . eq f(X) = s(X) [variant] .
+ALIKE sort S . op a : -> S . ops f s t : S -> S . ops from to : S S -> S . vars X Y : S . eq f(X) = s(X) [variant] . eq f(Y) = t(Y) [variant] .
+FIRST sort S . op a : -> S . op f : S S -> S . ops s t : S -> S . ops from to : S S -> S . vars X Y : S . eq f(X,a) = s(X) [variant] . eq f(a,Y) = t(Y) [variant] .
 GROW sort S . op a : -> S . ops f s : S -> S . ops from to : S S -> S . vars X Y : S . eq f(X) = f(s(X)) [variant] .
 TAIL sort S . op 0 : -> S . op s : S -> S . op t : S S S -> S . ops from to : S S -> S . vars X Y Z : S . eq t(X,s(Y),Z) = t(X,Y,Z) [variant] . eq t(s(X),0,Z) = t(X,Z,Z) [variant] . eq t(0,0,Z) = Z [variant] .
 SHARED sort S . ops a b : -> S . ops d k : S -> S . ops p q : S S -> S . ops from to : S S -> S . vars X Y : S . eq d(X) = p(X,X) [variant] . eq k(X) = a [variant] . eq q(X,X) = X [variant] .";
@@ -84,6 +90,10 @@ SORTED 0 2 g(X) => g(X) | form form size
 SORTED 0 3 g(g(b)) => g(g(b)) | form form size
 SORTED 1 2 g(a) => a | form steps size
 SORTED 2 3 g(g(a)) => a | form steps size
+LARGE 1 2 f(a) => a | form steps size
+SMALL 1 2 f(a) => a | form steps size
+ALIKE 1 2 f(a) => s(a) | form steps size
+FIRST 1 3 f(a,a) => s(a) | form steps size
 GROW 3 5 f(a) => a | steps steps size
 GROW 4 5 f(a) => a | size steps size
 GROW 10 5 f(a) => a | size size size

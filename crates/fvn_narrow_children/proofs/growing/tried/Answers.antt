@@ -6,9 +6,9 @@ use Rattle.fvn_terms.specs.declared.declarations.Declarations.{Declarations}
 use Rattle.fvn_terms.specs.Signature.{IsSort}
 use Rattle.fvn_flat.specs.Bindings.{BindingsFit}
 use Rattle.fvn_rewrite.specs.Usable.{equations_by}
-use Rattle.fvn_narrow_children.specs.Values.{AreValuesUnder, IsLargeValue, AreIrreducible, AreReducibleAs}
+use Rattle.fvn_narrow_children.specs.Values.{AreValuesUnder, IsLargeValue, AreSmallValues, AreIrreducible, AreReducibleAs}
 use Rattle.fvn_narrow_children.proofs.MovedFacts.{names_sorted, moved_is_lost}
-use Rattle.fvn_narrow_children.proofs.TriedFacts.{lost_is, large_stops}
+use Rattle.fvn_narrow_children.proofs.TriedFacts.{lost_is, not_lost, large_stops}
 use Rattle.fvn_narrow_children.proofs.growing.tried.Goals as goal
 
 pub some_moved-requires : goal.some_moved-requires
@@ -39,12 +39,17 @@ some_reducible-requires c =
 
 pub with_terms-requires : goal.with_terms-requires
 with_terms-requires c =
-    let r = c.args.rewriter.now in record {
+    let r = c.args.rewriter.now in
+    let own = c.in_ok-subst.subst in
+    let values : AreValuesUnder r.signature c.args.v.now c.args.s.now own = subst (λ (d : Declarations). AreValuesUnder d c.args.v.now c.args.s.now own) c.signature.ensures c.in_ok-subst.ensures in
+    let irreducible : AreIrreducible r.signature (equations_by r) c.args.v.now.vars own =
+    subst (λ vars. AreIrreducible r.signature (equations_by r) vars own) c.as_slice-vars.ensures (rw c.if-lost.false at c.in_ok-lost.ensures) in record {
       unifier = c.requires.unifier;
       members = c.requires.members;
-      values = subst (λ (d : Declarations). AreValuesUnder d c.args.v.now c.args.s.now c.in_ok-subst.subst) c.signature.ensures c.in_ok-subst.ensures;
-      irreducible =
-          subst (λ vars. AreIrreducible r.signature (equations_by r) vars c.in_ok-subst.subst) c.as_slice-vars.ensures (rw c.if-lost.false at c.in_ok-lost.ensures);
+      values = values;
+      small = subst (AreSmallValues c.args.v.now.vars own) c.requires.size (subst (λ vars. AreSmallValues vars own c.args.size) c.as_slice-vars.ensures (rw c.in_default.is at c.in_ok-large.ensures));
+      kept = not_lost r c.args.v.now c.args.members.now c.args.s.now own values irreducible;
+      irreducible = irreducible;
     }
 
 pub returns-then-lost : goal.returns-then-lost
@@ -57,6 +62,11 @@ returns-then-lost c =
 pub returns-in-Some : goal.returns-in-Some
 returns-in-Some c =
     let r = c.args.rewriter.now in
-    large_stops r c.args.v.now c.args.members.now c.args.s.now c.in_ok-subst.subst c.requires.variant c.args.size c.requires.size c.in-Some.t
-    (subst (λ (d : Declarations). AreValuesUnder d c.args.v.now c.args.s.now c.in_ok-subst.subst) c.signature.ensures c.in_ok-subst.ensures)
-    (subst (λ vars. IsLargeValue vars c.in_ok-subst.subst c.args.size c.in-Some.t) c.as_slice-vars.ensures (rw c.in-Some.is at c.in_ok-large.ensures))
+    let own = c.in_ok-subst.subst in
+    let values : AreValuesUnder r.signature c.args.v.now c.args.s.now own = subst (λ (d : Declarations). AreValuesUnder d c.args.v.now c.args.s.now own) c.signature.ensures c.in_ok-subst.ensures in
+    let irreducible : AreIrreducible r.signature (equations_by r) c.args.v.now.vars own =
+    subst (λ vars. AreIrreducible r.signature (equations_by r) vars own) c.as_slice-vars.ensures (rw c.if-lost.false at c.in_ok-lost.ensures) in (
+      large_stops r c.args.v.now c.args.members.now c.args.s.now own c.requires.variant c.args.size c.requires.size c.in-Some.t values
+          (subst (λ vars. IsLargeValue vars own c.args.size c.in-Some.t) c.as_slice-vars.ensures (rw c.in-Some.is at c.in_ok-large.ensures)),
+      not_lost r c.args.v.now c.args.members.now c.args.s.now own values irreducible,
+    )

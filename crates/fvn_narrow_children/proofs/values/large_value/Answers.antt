@@ -1,8 +1,18 @@
--- The value that is bound is too large.
-use Rattle.std.proofs.lemmas.List.Elements.{Contains-get_or}
-use Rattle.fvn_narrow_children.proofs.ValueFacts.{large_value_is}
+-- One value more.
+use Rattle.std.proofs.Common.{subst}
+use Rattle.std.proofs.lemmas.List.{take_all}
+use Rattle.std.proofs.lemmas.List.Elements.{All-more, Contains-get_or}
+use Rattle.fvn_narrow_children.specs.Values.{IsSmallAt, AreSmallValues}
+use Rattle.fvn_narrow_children.proofs.ValueFacts.{large_listed}
 use Rattle.fvn_narrow_children.proofs.values.large_value.Goals as goal
 
-pub returns-then-size : goal.returns-then-size
-returns-then-size c =
-    large_value_is c.args.vars.now c.args.s.now c.args.size c.size.result _ c.in-Some.t.now c.in_ok-copy-in-Some.copy (Contains-get_or c.args.vars.now c.loop-x.x-index _ c.loop-x-test.true) (rw c.in-Some.is at c.get.ensures) c.in_ok-copy-in-Some.ensures c.size.ensures c.if-size.true
+pub loop-x-preserved : goal.loop-x-preserved
+loop-x-preserved c =
+    All-more (IsSmallAt c.args.s.now c.args.size) c.args.vars.now c.loop-x.x-index _ c.loop-x-test.true c.loop-x.invariant (rw c.in_default.is at c.in_ok-found.ensures)
+
+pub returns-in-Some : goal.returns-in-Some
+returns-in-Some c =
+    large_listed c.args.vars.now c.args.s.now c.args.size _ c.in-Some.t (Contains-get_or c.args.vars.now c.loop-x.x-index _ c.loop-x-test.true) (rw c.in-Some.is at c.in_ok-found.ensures)
+
+pub returns : goal.returns
+returns c = subst (λ vars. AreSmallValues vars c.args.s.now c.args.size) (take_all c.loop-x.x-index c.args.vars.now c.loop-x-test.false) c.loop-x.invariant
