@@ -122,6 +122,18 @@ def linear(n):
                   "op _+_ : S S -> S [assoc comm]", "eq %s = e [variant]" % total("_+_", ["X%d:S" % i for i in range(n)]))
 
 
+def lower(n):
+    """An equation that takes n elements away, of a sort below that of sums."""
+    return module("LOWER", "sorts A B", "subsort A < B", "ops " + " ".join("c%d" % i for i in range(1, 16)) + " : -> A", "ops d1 d2 e : -> B",
+                  "op _+_ : B B -> B [assoc comm]", "eq %s = e [variant]" % total("_+_", ["X%d:A" % i for i in range(n)]))
+
+
+def elements(twice, once, others=0):
+    """So many elements twice, then so many more, and others of a higher sort."""
+    names = ["c%d" % i for i in range(1, twice + once + 1)]
+    return names[:twice] * 2 + names[twice:] + ["d%d" % i for i in range(1, others + 1)]
+
+
 # A term whose rewriting takes twice as many steps for each s.
 HALVES = module("HALVES", "sort S", "ops 0 a : -> S", "ops s f : S -> S", "op g : S S -> S", "var X : S",
                 "eq f(0) = a [variant]", "eq f(s(X)) = g(f(X),f(X)) [variant]", "eq g(a,a) = a [variant]")
@@ -186,6 +198,10 @@ ROWS = [
      doubles(12), "reduce " + total("_+_", ["c%d" % i for i in range(1, 31)])),
     ("verify, 12 doubles in 13 doubles and 4", ["verify", total("_+_", ["c%d" % i for i in range(1, 14)] * 2 + ["c14", "c15", "c16", "c17"])
      + " =? X:S", "{X:S --> e}"], doubles(12), "reduce " + total("_+_", ["c%d" % i for i in range(1, 14)] * 2 + ["c14", "c15", "c16", "c17"])),
+    ("verify, 12 doubles in 11 doubles and 8", ["verify", total("_+_", elements(11, 8)) + " =? X:S", "{X:S --> e}"], doubles(12),
+     "reduce " + total("_+_", elements(11, 8))),
+    *[("verify, 12 variables of a lower sort in %d and %d others" % (n, k), ["verify", total("_+_", elements(0, n, k)) + " =? X:B", "{X:B --> e}"],
+       lower(12), "reduce " + total("_+_", elements(0, n, k))) for n, k in ((11, 1), (11, 2), (13, 0), (12, 2))],
     ("verify, 24 variables in 30 elements", ["verify", total("_+_", ["c%d" % i for i in range(1, 31)]) + " =? X:S", "{X:S --> e}"],
      linear(24), "reduce " + total("_+_", ["c%d" % i for i in range(1, 31)])),
     ("verify, 262,143 steps", ["verify", "f(%s) =? a" % UNARY, "{}", "--steps", "1000000"], HALVES, "reduce f(%s)" % UNARY),

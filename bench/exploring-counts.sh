@@ -83,7 +83,7 @@ def change(path, *pairs):
     open(path, "w").write(text)
 
 change("fvn_signature/src/lib.rt",
-       ("mod completing;\n", "mod completing;\nmod counts;\n"),
+       ("mod draft;\n", "mod counts;\nmod draft;\n"),
        ("pub use draft::Draft;\n", "pub use counts::{Counts, note, noted};\npub use draft::Draft;\n"))
 change("fvn_signature/src/queries/signature.rt",
        ("    direct: Vec<Seq<SortId>>,\n}", "    direct: Vec<Seq<SortId>>,\n    pub counts: Counts,\n}"),

@@ -2,15 +2,17 @@
 """Deep terms at each limit, by each command: the least stack with which the answer comes, and what comes with less of it or with
 less memory for the whole program.
 
-Over `./fvn` or the program behind --fvn. Each row is run with the usual stack of 8 MiB, with each of 100 to 1,024 KiB (`ulimit -s`,
-in steps of --step KiB), and with 2.4 to 8 MB of memory (`ulimit -v`, in steps of --space KB). A run that ends by a signal in place of
-an answer or of status 8 is told, with what was given to it. With --only WORD the rows whose name has the word.
+Over `./fvn` or the program behind --fvn. Each row is run with 64 MiB, for what it answers, with the usual stack of 8 MiB, with each of
+100 to 1,024 KiB (`ulimit -s`, in steps of --step KiB), and with 2.4 to 8 MB of memory (`ulimit -v`, in steps of --space KB); rows that
+take over half a second with three of each. A run that ends by a signal in place of an answer or of status 8 is told, with what was given
+to it. With --only WORD the rows whose name has the word; a run ends after --seconds.
 """
 import argparse
 import collections
 import resource
 import subprocess
 import sys
+import time
 
 OPERATORS = ("fmod DEEP is sort S . op a : -> S . ops f g : S -> S . op _+_ : S S -> S [assoc comm] . op p : S S -> S . "
              "op k : S S -> S [comm] . ")
@@ -28,8 +30,13 @@ def left(n, op):
     return ("%s(" % op) * n + "a" + ",a)" * n
 
 
-def right(n, op):
-    return ("%s(a," % op) * n + "a" + ")" * n
+def right(n, op, leaf="a"):
+    return ("%s(a," % op) * n + leaf + ")" * n
+
+
+def sums(n, leaf):
+    """Sums with an identity, one within another."""
+    return "g(__(a," * n + leaf + "))" * n
 
 
 def row_of(statement, *words):
@@ -38,10 +45,30 @@ def row_of(statement, *words):
 
 BAGS = "fmod BAGS is sorts E M . subsort E < M . op mt : -> M . op g : M -> M . op __ : M M -> M [assoc comm id: mt] . endfm\n"
 COPIES = " /\\ ".join(["T:M =? " + unary(120, "__(X:M,Z:M)"), *("Y%d:M =? T:M" % i for i in range(20))])
+TWO = "__(A:E,X:M) =? __(B:E,Z:M)"
+CONSTANTS = ",".join("c%d" % i for i in range(1, 21))
+NESTS = ("fmod NESTS is sorts E M . subsort E < M . op mt : -> M . ops a %s : -> E . ops f g : M -> M . op k : M M -> M [comm] . "
+         "op __ : M M -> M [assoc comm id: mt] . " % CONSTANTS.replace(",", " "))
+SUMMING = "eq f(%s) = f(X:M) [variant] . " % sums(32, "X:M")
+TURNING = "eq f(%s) = f(X:S) [variant] . " % right(49, "k", "X:S")
 FALLING = "eq f(%s) = f(X:S) [variant] . " % unary(98, "X:S")
 EVEN = "eq g(g(a)) = a [variant] . "
 STEPS = "eq g(a) = a [variant] . "
 LARGE = "eq %s = %s [variant] . " % (unary(399, "X:S"), unary(398, "X:S"))
+
+
+def valued(term, count):
+    """A problem with two unifiers, of which none has the other as an instance, and so many variables more for a term."""
+    return " /\\ ".join([TWO, "T:M =? " + term, *("Y%d:M =? T:M" % i for i in range(count - 1))])
+
+
+def nested(term, count):
+    return ["unify", valued(term, count)], NESTS + "endfm\n"
+
+
+def twelve(sort):
+    return "f(X:%s) =? f(Z:%s)" % (sort, sort) + "".join(" /\\ Y%d:%s =? X:%s" % (i, sort, sort) for i in range(10))
+
 
 # name: words and module
 ROWS = {
@@ -67,28 +94,39 @@ ROWS = {
     "terminates, sides of 400": row_of(LARGE, "terminates", "g : 1 1"),
     "work": (["work", "4"], ""),
     "unify, 21 values of 120 symbols": (["unify", COPIES + " /\\ __(A:E,X:M) =? __(B:E,Z:M)"], BAGS),
+    "unify, 21 values of 201 symbols in commutative pairs": nested(right(100, "k", "X:M"), 21),
+    "unify, 71 values of 201 symbols in commutative pairs": nested(right(100, "k", "X:M"), 71),
+    "unify, 171 values of sums of 21": nested("g(__(%s,W:M))" % CONSTANTS, 171),
+    "unify, 101 values of 25 sums, one within another": nested(sums(25, "W:M"), 101),
     "vunify, two values of 980 symbols": row_of(FALLING, "vunify", "--levels=12", "f(X:S) =? f(Y:S)"),
+    "vunify, two values of 980 symbols in commutative pairs": row_of(TURNING, "vunify", "--levels=12", "f(X:S) =? f(Y:S)"),
+    "vunify, two values of 960 symbols in sums": (["vunify", "--levels=12", "f(X:M) =? f(Y:M)"], NESTS + SUMMING + "endfm\n"),
+    "vunify, twelve values of 980 symbols": row_of(FALLING, "vunify", "--levels=12", twelve("S")),
+    "vunify, twelve values of 980 symbols in commutative pairs": row_of(TURNING, "vunify", "--levels=12", twelve("S")),
+    "vunify, twelve values of 960 symbols in sums": (["vunify", "--levels=12", twelve("M")], NESTS + SUMMING + "endfm\n"),
 }
+MOST = 65_536
 
 
 def run(fvn, asked, stack, space=None):
-    """The status and the text of a run with so many KiB of stack and of memory, or None where the program does not start."""
+    """The status and the text of a run with so many KiB of stack and of memory, or None where the program does not start or end."""
     def limits():
         resource.setrlimit(resource.RLIMIT_STACK, (stack << 10, stack << 10))
         if space:
             resource.setrlimit(resource.RLIMIT_AS, (space << 10, space << 10))
     words, text = asked
     try:
-        done = subprocess.run([fvn, *words], input=text.encode(), stdout=subprocess.PIPE, stderr=subprocess.DEVNULL, preexec_fn=limits)
+        done = subprocess.run([fvn, *words], input=text.encode(), stdout=subprocess.PIPE, stderr=subprocess.DEVNULL, preexec_fn=limits,
+                              timeout=SECONDS[0])
     except (OSError, subprocess.SubprocessError):
         return None
     return done.returncode, done.stdout
 
 
-def least(fvn, asked, want):
-    """The least stack with which this is answered, to 8 KiB."""
-    low, high = 32, 8_192
-    while high - low > 8:
+def least(fvn, asked, want, most, step):
+    """The least stack with which this is answered, to so many KiB."""
+    low, high = 32, most
+    while high - low > step:
         middle = (low + high) // 2
         if run(fvn, asked, middle) == want:
             high = middle
@@ -111,25 +149,44 @@ def sorted_out(fvn, asked, want, limits):
     return told + (" (at %d to %d)" % (min(signals), max(signals)) if signals else ""), len(signals)
 
 
+def tried(asked, name, row):
+    """The line of a row, and how many of its runs ended by a signal or otherwise."""
+    begun = time.time()
+    want = run(asked.fvn, row, MOST)
+    took = time.time() - begun
+    if want is None:
+        return "| %s | not ended in %d s | | | |" % (name, asked.seconds), 0
+    usual = run(asked.fvn, row, 8_192)
+    fits = usual == want
+    dear = took > 0.5
+    stacks = [256, 512, 1_024] if dear else [*range(100, 1_024, asked.step), 1_024]
+    spaces = [2_400, 4_000, 8_000] if dear else range(2_400, 8_001, asked.space)
+    in_stack, first = sorted_out(asked.fvn, row, want, [(s, None) for s in stacks])
+    in_space, second = sorted_out(asked.fvn, row, want, [(8_192, v) for v in spaces])
+    need = least(asked.fvn, row, want, 8_192 if fits else MOST, 64 if dear else 8)
+    eight = "" if fits else " (over 8 MiB: status %s)" % (usual and usual[0])
+    return "| %s | %d, %.1f s | %d%s | %s | %s |" % (name, want[0], took, need, eight, in_stack, in_space), first + second + (not fits)
+
+
+SECONDS = [60]
+
+
 def main():
     args = argparse.ArgumentParser(description=__doc__)
     args.add_argument("--fvn", default="./fvn")
     args.add_argument("--only", default="")
     args.add_argument("--step", type=int, default=50)
     args.add_argument("--space", type=int, default=100)
+    args.add_argument("--seconds", type=int, default=60)
     asked = args.parse_args()
-    print("| input | status | least stack, KiB | stack of 100 to 1,024 KiB | memory of 2.4 to 8 MB |\n|---|---|---|---|---|")
+    SECONDS[0] = asked.seconds
+    print("| input | status, time | least stack, KiB | stack of 100 to 1,024 KiB | memory of 2.4 to 8 MB |\n|---|---|---|---|---|")
     bad = 0
     for name, row in ROWS.items():
-        if asked.only not in name:
-            continue
-        want = run(asked.fvn, row, 8_192)
-        stacks = [(s, None) for s in [*range(100, 1_024, asked.step), 1_024]]
-        spaces = [(8_192, v) for v in range(2_400, 8_001, asked.space)]
-        in_stack, first = sorted_out(asked.fvn, row, want, stacks)
-        in_space, second = sorted_out(asked.fvn, row, want, spaces)
-        bad += first + second
-        print("| %s | %s | %d | %s | %s |" % (name, want[0], least(asked.fvn, row, want), in_stack, in_space), flush=True)
+        if asked.only in name:
+            line, more = tried(asked, name, row)
+            bad += more
+            print(line, flush=True)
     print("stack: %d runs by a signal or otherwise" % bad)
     sys.exit(bad > 0)
 

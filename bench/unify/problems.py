@@ -57,6 +57,12 @@ def markings(problems):
     return {text: " =? ".join(marking(side) for side in text.split(" = ")) for text in problems}
 
 
+def pairs_in_one(count):
+    """So many commutative pairs in one term without axioms, against pairs of constants."""
+    left = [f"c(X{i}:S, Y{i}:S)" for i in range(1, count + 1)]
+    return f"{over('p', left)} =? {over('p', ['c(a, b)'] * count)}"
+
+
 def against_constants(letters, count):
     return f"{over('__', letters)} =? {over('__', [f'c{i}' for i in range(1, count + 1)])}"
 
@@ -66,6 +72,7 @@ FAMILIES = [
     ("3 against n", "sums", {n: sums(3, n) for n in (2, 3)}),
     ("coefficients", "sums", {n: f"{over('_+_', ['X1:S'] * n + ['X2:S'])} =? {over('_+_', ['Y1:S'] * 2 + ['Y2:S'] * 2)}" for n in (2, 3, 4)}),
     ("commutative chain", "sums", {n: " /\\ ".join(f"c(X{i}:S, Y{i}:S) =? c(a, b)" for i in range(1, n + 1)) for n in (2, 4, 6, 8, 10)}),
+    ("pairs in one term", "pairs", {n: pairs_in_one(n) for n in (4, 6, 8, 10)}),
     ("commutative tower", "sums", {n: f"{tower(n, 'X:S')} =? {tower(n, 'b')}" for n in (2, 4, 6, 8)}),
     ("mixed operators", "sums", {n: f"_+_({over('_*_', variables('X', n))}, Z:S) =? _+_({over('_*_', variables('Y', 2))}, g(W:S))" for n in (2, 3, 4)}),
     ("aliens under sums", "sums", {n: f"{over('_+_', [f'g(X{i}:S)' for i in range(1, n + 1)])} =? {over('_+_', [f'g(Y{i}:S)' for i in range(1, n + 1)])}" for n in (2, 3, 4, 5)}),
@@ -98,7 +105,8 @@ FAMILIES = [
         1: f"{over('__', variables('M', 3, 'Marking'))} =? {over('__', variables('P', 3, 'Place') + ['ready'])}",
         2: f"{over('__', variables('P', 3, 'Place') + ['M:Marking'])} =? {over('__', variables('N', 2, 'Marking') + ['ready', 'ready'])}",
     }),
-    ("element and bag", "soup", {n: against_constants(["E:Elt", "X:Bag"], n) for n in (4, 8, 12, 13, 16)}),
+    ("element and bag", "soup", {n: against_constants(["E:Elt", "X:Bag"], n) for n in (4, 8, 12, 13, 16, 25)}),
+    ("two bags", "soup", {n: against_constants(["X:Bag", "Y:Bag"], n) for n in (8, 12)}),
     ("two elements and bag", "soup", {n: against_constants(["E:Elt", "F:Elt", "X:Bag"], n) for n in (4, 8)}),
     ("free pairs", "plain", {n: f"{over('p', variables('X', n) + ['a'])} =? {over('p', variables('Y', n) + ['a'])}" for n in (25, 50, 99)}),
     ("free terms that double", "plain", {n: doubled(n) for n in (3, 5, 7)}),

@@ -70,6 +70,7 @@ fn row_of<'a>(line: &'a str, module: &'a str) -> Row<'a> {
     }
 }
 
+/// The number that digits write, or 0.
 fn number(text: &str) -> usize {
     text.parse::<usize>().unwrap_or(0)
 }
@@ -163,6 +164,7 @@ fn code_of<R: Threads + Sync, G: Gate>(
     Ok(program(rt, gate, alloc, setting.words, &mut module, out))
 }
 
+/// How many lines end in the text.
 fn lines_in(text: &[u8]) -> usize {
     let mut count = 0usize;
     for b in text {

@@ -142,7 +142,8 @@ impl Choices {
 
     /// Lists from now on only choices within these bounds, and goes back to the start.
     pub fn list_within(&mut self, bounds: ColumnBounds)
-        ensures { self.new ≡ record self.old { bounds = bounds; below = 2 ^ length self.old.basis } }
+        ensures { self.new
+            ≡ record self.old { bounds = bounds; below = 2 ^ length self.old.basis } }
     {
         self.bounds = bounds;
         self.again();

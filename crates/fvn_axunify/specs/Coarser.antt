@@ -15,7 +15,8 @@ use Rattle.fvn_axunify.specs.Searched.{IsAnswered}
 -- Each unifier that joins all that the partition joins at which the search ended, and more, is held.
 pub record HoldsCoarser (d : Declarations) (given : Pairs) (Holds : Substitution → Type 0) (f : OpId) (system : System) : Type 0 where
   pub at : IsEndedAt d given f system
-  pub held : (u : Substitution) → IsUnifier d (problem_of given) u → Joins d (problem_of given) at.cause.class u → JoinsMore d given f system at u → Holds u
+  pub held : (u : Substitution) → IsUnifier d (problem_of given) u →
+      Joins d (problem_of given) at.cause.class u → JoinsMore d given f system at u → Holds u
 
 -- so it is of an answer that ends at a refused sum system
 abbrev pub HoldsCoarserOnes : Declarations → Pairs → Solved → Type 0

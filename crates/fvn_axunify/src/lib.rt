@@ -9,4 +9,5 @@ mod search;
 mod solver;
 mod task;
 
+pub use fvn_combine::{CombineEnd, Combiner};
 pub use solver::{AxiomUnify, SolveLimits};

@@ -17,12 +17,14 @@ use std::alloc::Global;
 
 // The list with one more unifier, if it is no instance of a member, and then without the instances of it.
 fn with_unifier(task: &Task, kept: Vec<Kept>, subst: Subst) -> Result<Vec<Kept>, NoMemory>
-    requires asked { IsAsked task.now.sig.now task.now.problem.now task.now.vars.now task.now.first }
+    requires asked { IsAsked task.now.sig.now task.now.problem.now task.now.vars.now
+        task.now.first }
     requires kept { AreKept task.now.sig.now task.now.problem.now task.now.vars.now task.now.first
         kept.items }
     requires member { IsMember task.now.sig.now task.now.problem.now task.now.first subst }
     ensures { IfOk result (λ after.
-        IsWith task.now.sig.now task.now.problem.now task.now.vars.now task.now.first kept.items subst after.items) }
+        IsWith task.now.sig.now task.now.problem.now task.now.vars.now task.now.first kept.items
+        subst after.items) }
 {
     covering_of_variants_is_a_preorder();
     covering_of_unifiers_is_instance();
@@ -40,11 +42,13 @@ fn with_unifier(task: &Task, kept: Vec<Kept>, subst: Subst) -> Result<Vec<Kept>,
 
 // The list with more unifiers, as long as it has fewer members than the limit.
 fn with_each(task: &Task, kept: Vec<Kept>, more: Vec<Subst>) -> Result<Vec<Kept>, NoMemory>
-    requires asked { IsAsked task.now.sig.now task.now.problem.now task.now.vars.now task.now.first }
+    requires asked { IsAsked task.now.sig.now task.now.problem.now task.now.vars.now
+        task.now.first }
     requires kept { AreKept task.now.sig.now task.now.problem.now task.now.vars.now task.now.first
         kept.items }
     requires few { length kept.items ≤ task.now.limits.unifiers }
-    requires members { All (IsMember task.now.sig.now task.now.problem.now task.now.first) more.items }
+    requires members { All (IsMember task.now.sig.now task.now.problem.now task.now.first)
+        more.items }
     ensures { IfOk result (λ after.
         IsWithEach task.now.sig.now task.now.problem.now task.now.vars.now task.now.first
         task.now.limits.unifiers kept.items more.items after.items) }
@@ -66,7 +70,8 @@ pub(crate) fn with_refinements(
     kept: Vec<Kept>,
     g: &Subst,
 ) -> Result<Vec<Kept>, NoMemory>
-    requires asked { IsAsked task.now.sig.now task.now.problem.now task.now.vars.now task.now.first }
+    requires asked { IsAsked task.now.sig.now task.now.problem.now task.now.vars.now
+        task.now.first }
     requires kept { AreKept task.now.sig.now task.now.problem.now task.now.vars.now task.now.first
         kept.items }
     requires few { length kept.items ≤ task.now.limits.unifiers }

@@ -27,7 +27,8 @@ pub(crate) struct Found {
 
 // What is found until the combiner or the limit ends the search.
 fn run_through(task: &Task, combiner: &mut Combiner) -> Result<Found, NoMemory>
-    requires asked { IsAsked task.now.sig.now task.now.problem.now task.now.vars.now task.now.first }
+    requires asked { IsAsked task.now.sig.now task.now.problem.now task.now.vars.now
+        task.now.first }
     requires some { 1 ≤ task.now.limits.unifiers }
     requires of { IsOf task.now.sig.now task.now.problem.now task.now.first task.now.limits.size
         combiner.old }
@@ -62,7 +63,8 @@ fn run_through(task: &Task, combiner: &mut Combiner) -> Result<Found, NoMemory>
 
 // What is found of a problem that is small enough.
 pub(crate) fn search(task: &Task) -> Result<Found, NoMemory>
-    requires asked { IsAsked task.now.sig.now task.now.problem.now task.now.vars.now task.now.first }
+    requires asked { IsAsked task.now.sig.now task.now.problem.now task.now.vars.now
+        task.now.first }
     requires some { 1 ≤ task.now.limits.unifiers }
     requires limit { task.now.limits.size ≤ TERM_SYMBOLS }
     requires small { symbols_of_pairs task.now.problem.now.pairs ≤ task.now.limits.size }

@@ -66,7 +66,8 @@ impl<'a> Model for AxiomUnify<'a> {
 
 // The answer that was found.
 fn told(task: &Task, found: Found) -> Result<Solved, NoMemory>
-    requires asked { IsAsked task.now.sig.now task.now.problem.now task.now.vars.now task.now.first }
+    requires asked { IsAsked task.now.sig.now task.now.problem.now task.now.vars.now
+        task.now.first }
     requires found { IsFound task.now.sig.now task.now.problem.now task.now.vars.now task.now.first
         task.now.limits.unifiers task.now.limits.size found.kept.items found.end }
     requires small { symbols_of_pairs task.now.problem.now.pairs ≤ task.now.limits.size }

@@ -15,7 +15,8 @@ use Rattle.fvn_cmd_unify.specs.Replies.{IsToBeUnified}
 -- What a line says, word for word, is a unifier, and is an instance of the unifier whose line it is, as this is of it.
 abbrev pub LinesDenoteUnifiers : Type 0
 LinesDenoteUnifiers =
-    (m : Contents) (p : Problem) → FitsKinds m.signature → HasVariables m.signature p → (s : Substitution) → Unifies m p s → (line : Text) → IsLineOf m p s line
+    (m : Contents) (p : Problem) → FitsKinds m.signature → HasVariables m.signature p → (s : Substitution) →
+    Unifies m p s → (line : Text) → IsLineOf m p s line
     → (r : Substitution) → Denotes m.signature m.names p.names.texts p.vars line r
     → Unifies m p (on_variables p.vars r) × IsInstanceOf m p (on_variables p.vars r) s × IsInstanceOf m p s (on_variables p.vars r)
 

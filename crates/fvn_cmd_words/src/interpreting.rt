@@ -134,7 +134,8 @@ fn command_with_two<'a>(
     bindings: &'a [u8],
     set: Settings,
 ) -> Option<Command<'a>>
-    ensures { TellsAs (command_with_two name.now problem.now bindings.now (standing_in set)) result }
+    ensures { TellsAs (command_with_two name.now problem.now bindings.now (standing_in set))
+        result }
 {
     if name == b"verify".as_slice() {
         return verify(problem, bindings, set);

@@ -66,7 +66,8 @@ fn opened(x: OptionName) -> &'static [u8]
 
 // What stands behind the option and `=`.
 fn behind(word: &[u8], x: OptionName) -> Option<&[u8]>
-    ensures { MatchOption result (behind x word.now ≡ None) (λ rest. behind x word.now ≡ Some rest.now) }
+    ensures { MatchOption result (behind x word.now ≡ None) (λ rest.
+        behind x word.now ≡ Some rest.now) }
 {
     word.strip_prefix(opened(x))
 }

@@ -90,7 +90,8 @@ impl Search<'_> {
     // The variables, each with those of its choices that are not excluded.
     fn narrowed(&self, alloc: Global) -> Result<Vec<(Var, Seq<Shape>)>, NoMemory>
         requires posed { IsPosed self.now }
-        ensures { IfOk result (λ some. AllZip (IsNarrowed self.now) self.now.unchosen.now some.items) }
+        ensures { IfOk result (λ some.
+            AllZip (IsNarrowed self.now) self.now.unchosen.now some.items) }
     {
         let all = self.unchosen;
         let mut some = Vec::new(alloc);

@@ -233,6 +233,7 @@ fn is_variable_beside(a: Outlook, b: Outlook) -> bool
     false
 }
 
+// Whether both are seen to be identities.
 fn are_identities(a: Outlook, b: Outlook) -> bool
     ensures { result ≡ (a.identity && b.identity) }
 {
@@ -322,7 +323,8 @@ fn is_below_rank(sig: &Signature, parts: &[Outlook], low: SortId, rank: &Rank) -
 
 // Whether the sort is at or below the results of all ranks that may serve.
 fn is_below_ranks(sig: &Signature, f: OpId, parts: &[Outlook], low: SortId) -> bool
-    ensures { result ≡ list_all (is_below_rank sig.now (lows_of parts.now) low) (ranks_of sig.now f) }
+    ensures { result ≡ list_all (is_below_rank sig.now (lows_of parts.now) low)
+        (ranks_of sig.now f) }
 {
     for i in 0..sig.rank_count(f) {
         if !is_below_rank(sig, parts, low, sig.rank(f, i)) {
@@ -502,6 +504,7 @@ impl PartialChoice<'_> {
         }
     }
 
+    // What is seen of an operator over its arguments.
     #[cycle(outlook)]
     fn outlook_app(&self, f: OpId, us: &Args) -> Outlook
         requires identities { self.now.identities.now ≡ identities self.now.sig.now }
@@ -546,7 +549,8 @@ impl PartialChoice<'_> {
         requires left { IsTerm self.now.sig.now (term left.now) }
         requires right { IsTerm self.now.sig.now (term right.now) }
         ensures { IsTrue result → ForEachFilled self.now (λ filled.
-            is_met self.now.sig.now sought self.now.identities.now (term left.now) (term right.now) filled
+            is_met self.now.sig.now sought self.now.identities.now
+            (term left.now) (term right.now) filled
             ≡ false) }
     {
         let low_side = self.outlook(left);

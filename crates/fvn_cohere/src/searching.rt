@@ -42,6 +42,7 @@ pub(crate) struct Search<'s> {
     pub(crate) unchosen: &'s [(Var, Seq<Shape>)],
 }
 
+/// Whether what stands at the root is a variable.
 pub(crate) fn is_variable_root(root: Root) -> bool
     ensures { result ≡ is_variable_root root }
 {
@@ -52,6 +53,7 @@ pub(crate) fn is_variable_root(root: Root) -> bool
     }
 }
 
+/// Whether what stands at the root is one of these constants.
 pub(crate) fn is_identity_root(es: &[OpId], root: Root) -> bool
     ensures { result ≡ is_identity_root es.now root }
 {
@@ -118,7 +120,8 @@ impl Search<'_> {
         requires posed { IsPosed self.now }
         requires allowed { AreAllowed self.now.sig.now (shapes_by chosen.now) }
         ensures { IsTrue result →
-            some_choice (is_sought self.now) (drop from self.now.unchosen.now) (shapes_by chosen.now)
+            some_choice (is_sought self.now) (drop from self.now.unchosen.now)
+            (shapes_by chosen.now)
             ≡ false }
     {
         self.sig.recall_good();
@@ -142,7 +145,8 @@ impl Search<'_> {
         requires posed { IsPosed self.now }
         requires allowed { AreAllowed self.now.sig.now (shapes_by chosen.now) }
         ensures { result ≡
-            some_choice (is_sought self.now) (drop from self.now.unchosen.now) (shapes_by chosen.now) }
+            some_choice (is_sought self.now) (drop from self.now.unchosen.now)
+            (shapes_by chosen.now) }
     {
         let all = self.unchosen;
         if from == all.len() {

@@ -119,6 +119,7 @@ pub(crate) fn shape(sig: &Signature, chosen: &Chosen<'_>, t: &Plain) -> Shape
     }
 }
 
+// The shape of an operator over its arguments.
 #[cycle(shape)]
 fn shape_app(sig: &Signature, chosen: &Chosen<'_>, f: OpId, us: &Args) -> Shape
     requires { IsTerm sig.now (app f us.now) }

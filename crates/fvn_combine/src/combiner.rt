@@ -12,11 +12,11 @@ ghost use Rattle.fvn_combine.specs.Work.{work_left};
 ghost use Rattle.fvn_combine.specs.inner.Parts.{search_by, search_of};
 ghost use Rattle.fvn_combine.specs.declared.ending.Ended.{Ended as Cause};
 
+use crate::effort::Effort;
 use crate::ending::{CombineEnd, Ended, told};
 use crate::opened::Leaf;
 use crate::stepping::{Found, next_unifier};
 use crate::task::Task;
-use fvn_combine_drawing::SolvedSystems;
 use fvn_combine_nodes::{node_partitions_are_partitions, unifiers_partition};
 use fvn_combine_systems::node_systems_are_sum_systems;
 use fvn_combine_tree::Tree;
@@ -26,14 +26,14 @@ use fvn_terms::NoMemory;
 use std::alloc::Global;
 use std::marker::Model;
 
-/// A search: what is asked, the decision tree, the leaf that is open, why it has ended, and systems that were solved.
+/// A search: what is asked, the decision tree, the leaf that is open, why it has ended, and what was gone through.
 #[derive(Drop)]
 pub(crate) struct Parts<'a> {
     task: Task<'a>,
     tree: Tree,
     leaf: Option<Leaf>,
     ended: Option<Ended>,
-    solved: SolvedSystems,
+    effort: Effort,
 }
 
 /// All unifiers of a problem on kinds, one after another; every variable is read with its kind.
@@ -67,7 +67,7 @@ fn next_of_parts(
     tree: &mut Tree,
     leaf: &mut Option<Leaf>,
     ended: &mut Option<Ended>,
-    solved: &mut SolvedSystems,
+    effort: &mut Effort,
 ) -> Result<Option<Subst>, CombineEnd>
     requires search { IsSearch (search_by task.now tree.old leaf.old ended.old) }
     requires running { ended.old ≡ None }
@@ -81,7 +81,7 @@ fn next_of_parts(
     node_partitions_are_partitions();
     node_systems_are_sum_systems();
     unifiers_partition();
-    match next_unifier(task, tree, leaf, solved)? {
+    match next_unifier(task, tree, leaf, effort)? {
         Found::Nothing => Ok(None),
         Found::Ends(cause) => {
             let end = told(task.alloc, &cause)?;
@@ -107,7 +107,7 @@ fn next_of(parts: &mut Parts) -> Result<Option<Subst>, CombineEnd>
         &mut parts.tree,
         &mut parts.leaf,
         &mut parts.ended,
-        &mut parts.solved,
+        &mut parts.effort,
     )
 }
 
@@ -170,8 +170,10 @@ impl<'a> Combiner<'a> {
         requires small { symbols_of_pairs problem.now.pairs ≤ TERM_SYMBOLS }
         requires size { size < 2 ^ 64 - 1 }
         ensures of { IfOk result (IsOf sig.now problem.now first_fresh size) }
-        ensures all { IfOk result (λ m. (u : Substitution) → IsKindUnifier sig.now (problem_of problem.now) u
-            → (sorted ≡ true → KeepsSorts sig.now (variables_of (problem_of problem.now)) u) → IsToCome m u) }
+        ensures all { IfOk result (λ m. (u : Substitution)
+            → IsKindUnifier sig.now (problem_of problem.now) u
+            → (sorted ≡ true → KeepsSorts sig.now (variables_of (problem_of problem.now)) u)
+            → IsToCome m u) }
     {
         unifiers_partition();
         let task = Task::new(alloc, sig, problem, first_fresh, size, sorted)?;
@@ -183,7 +185,7 @@ impl<'a> Combiner<'a> {
                 tree,
                 leaf: None,
                 ended: None,
-                solved: SolvedSystems::new(alloc),
+                effort: Effort::new(alloc),
             },
         })
     }
@@ -196,9 +198,11 @@ impl<'a> Combiner<'a> {
         ensures same { self.new.combining ≡ self.old.combining }
         ensures advanced { self.old.ended ≡ None → IsAdvanced self.old self.new result }
         // What is left to do falls with each unifier that is given.
-        ensures falls { IfOk result (λ o. IfSome o (λ g. work_left self.new < work_left self.old)) }
+        ensures falls { IfOk result
+            (λ o. IfSome o (λ g. work_left self.new < work_left self.old)) }
         // After an end.
-        ensures again { (e : Cause) → self.old.ended ≡ Some e → IsAgain self.old.combining e result }
+        ensures again { (e : Cause) → self.old.ended ≡ Some e
+            → IsAgain self.old.combining e result }
         ensures stays { (e : Cause) → self.old.ended ≡ Some e → self.new ≡ self.old }
     {
         if let Some(ended) = &self.parts.ended {
@@ -206,5 +210,22 @@ impl<'a> Combiner<'a> {
             return Err(end);
         }
         next_of(&mut self.parts)
+    }
+
+    /// How many states were looked at so far, or the greatest number where there were more.
+    ///
+    /// A state says of some parts of the problem that they are equal and of others that they are not. It is looked at
+    /// once, and again with each fact that is found of it. No clause says how many states there are, and no answer
+    /// depends on it: a search that finds no facts gives the same unifiers, but may look at many times as many. Tests
+    /// hold the number.
+    pub fn states_asked(&self) -> u64 {
+        self.parts.effort.states
+    }
+
+    /// How many choices of minimal solutions were tried so far, or the greatest number where there were more.
+    ///
+    /// Each gives a unifier, nothing, or bindings that are too large. No clause says how many there are either.
+    pub fn choices_tried(&self) -> u64 {
+        self.parts.effort.choices
     }
 }

@@ -12,7 +12,8 @@ use fvn_combine_nodes::State;
 fn is_of_its_kind(task: &Task, state: &State, i: usize) -> bool
     requires closed { IsClosed task.now.declarations task.now.table state.now }
     requires within { i < length task.now.table.nodes }
-    ensures { IsTrue result ↔ IsOfItsKind task.now.declarations task.now.table (class_of state.now) i }
+    ensures { IsTrue result ↔ IsOfItsKind task.now.declarations task.now.table
+        (class_of state.now) i }
 {
     task.recall();
     let own = node_kind(task.sig, &task.table, i);
@@ -37,7 +38,8 @@ fn are_of_their_kinds(task: &Task, state: &State) -> bool
 // Whether nodes of one class are of one kind.
 pub(crate) fn are_of_one_kind(task: &Task, state: &State) -> bool
     requires { IsClosed task.now.declarations task.now.table state.now }
-    ensures { IsTrue result ↔ AreOfOneKind task.now.declarations task.now.table (class_of state.now) }
+    ensures { IsTrue result ↔ AreOfOneKind task.now.declarations task.now.table
+        (class_of state.now) }
 {
     task.recall();
     are_of_their_kinds(task, state)

@@ -3,6 +3,7 @@
 
 mod against;
 mod combiner;
+mod effort;
 mod ending;
 mod kinds;
 mod looking;

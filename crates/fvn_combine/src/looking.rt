@@ -10,6 +10,7 @@ ghost use Rattle.fvn_combine_drawing.specs.CombineCandidatesRefusals.{IsFirstRef
 ghost use Rattle.fvn_combine_inferring.specs.Inferred.{TellHeads};
 ghost use Rattle.fvn_combine.specs.inner.Found.{IsLooked, IsLookedAt};
 
+use crate::effort::Effort;
 use crate::kinds::are_of_one_kind;
 use crate::opened::{Opened, open};
 use crate::task::Task;
@@ -248,15 +249,16 @@ fn look_at(task: &Task, state: &State, solved: &mut SolvedSystems) -> Result<Loo
     }
 }
 
-// What the last state asks for.
-pub(crate) fn look(task: &Task, tree: &Tree, solved: &mut SolvedSystems) -> Result<Looked, NoMemory>
+// What the last state asks for. That it is looked at is counted.
+pub(crate) fn look(task: &Task, tree: &Tree, effort: &mut Effort) -> Result<Looked, NoMemory>
     requires { AreClosed task.now.declarations task.now.table tree.now }
     ensures { IfOk result (IsLooked task.now tree.now) }
 {
     match tree.top() {
         None => Ok(Looked::Over),
         Some(state) => {
-            let looked = look_at(task, state, solved)?;
+            effort.count_state();
+            let looked = look_at(task, state, &mut effort.solved)?;
             Ok(looked)
         }
     }

@@ -57,7 +57,8 @@ pub(crate) fn open(
     known: Known,
     bases: Vec<Seq<Solution>>,
 ) -> Result<Opened, NoMemory>
-    requires ready { IsReady task.now.declarations task.now.given task.now.first task.now.table state.now }
+    requires ready { IsReady task.now.declarations task.now.given task.now.first task.now.table
+        state.now }
     requires leaf { IsLeaf task.now.declarations task.now.table state.now }
     requires reading { IsReading task.now.declarations task.now.table (class_of state.now) reading }
     requires known { TellHeads task.now.declarations task.now.table state.now known.sorted
@@ -68,7 +69,8 @@ pub(crate) fn open(
     ensures all { IfOk result (λ o. (u : Substitution) (c : InChoice)
         → IsSortedCovering task.now state.now o.reading o.bases u c
         → IsCoveredToCome task.now state.now o u) }
-    ensures few { IfOk result (λ o. leaf_left task.now o ≤ most_tags task.now * most_numbers task.now) }
+    ensures few { IfOk result (λ o.
+        leaf_left task.now o ≤ most_tags task.now * most_numbers task.now) }
 {
     task.recall();
     sum_operators_are_few();

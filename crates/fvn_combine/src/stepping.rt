@@ -5,12 +5,13 @@ ghost use Rattle.fvn_combine.specs.Search.{IsOpenedAt};
 ghost use Rattle.fvn_combine.specs.inner.Found.{IsStep, AreFound, IsLessLeft};
 ghost use Rattle.fvn_combine.specs.Work.{left_by};
 
+use crate::effort::Effort;
 use crate::ending::Ended;
 use crate::looking::{Looked, look};
 use crate::opened::Leaf;
 use crate::task::Task;
 use crate::walking::next_in;
-use fvn_combine_drawing::{Drawn, SolvedSystems};
+use fvn_combine_drawing::Drawn;
 use fvn_combine_nodes::unifiers_partition;
 use fvn_combine_tree::Tree;
 use fvn_flat::Subst;
@@ -43,7 +44,7 @@ fn take_step(
     task: &Task,
     tree: &mut Tree,
     leaf: &mut Option<Leaf>,
-    solved: &mut SolvedSystems,
+    effort: &mut Effort,
 ) -> Result<Step, NoMemory>
     requires closed { AreClosed task.now.declarations task.now.table tree.old }
     requires ordered { AreInOrder tree.old }
@@ -54,7 +55,7 @@ fn take_step(
 {
     task.recall();
     unifiers_partition();
-    match look(task, tree, solved)? {
+    match look(task, tree, effort)? {
         Looked::Over => Ok(Step::Over),
         Looked::Open(i, j) => {
             tree.ask(task.alloc, task.sig, &task.table, i, j)?;
@@ -92,7 +93,7 @@ pub(crate) fn next_unifier(
     task: &Task,
     tree: &mut Tree,
     leaf: &mut Option<Leaf>,
-    solved: &mut SolvedSystems,
+    effort: &mut Effort,
 ) -> Result<Found, NoMemory>
     requires closed { AreClosed task.now.declarations task.now.table tree.old }
     requires ordered { AreInOrder tree.old }
@@ -105,12 +106,12 @@ pub(crate) fn next_unifier(
         (left_by task.now tree.new leaf.new)) }
 {
     'steps: loop {
-        match next_in(task, leaf)? {
+        match next_in(task, leaf, effort)? {
             Drawn::Nothing => {}
             Drawn::TooLarge(list) => return Ok(Found::Ends(Ended::Size(list))),
             Drawn::Unifier(g) => return Ok(Found::Given(g)),
         }
-        match take_step(task, tree, leaf, solved)? {
+        match take_step(task, tree, leaf, effort)? {
             Step::Over => return Ok(Found::Nothing),
             Step::More => {}
             Step::End(ended) => return Ok(Found::Ends(ended)),

@@ -13,6 +13,7 @@ ghost use Rattle.fvn_combine.specs.Work.{leaf_left, left_at};
 ghost use Rattle.fvn_acunify_product.specs.Wheels.{choices_left};
 
 use crate::against::go_against;
+use crate::effort::Effort;
 use crate::opened::{Leaf, Opened, Turning};
 use crate::task::Task;
 use fvn_base::Seq;
@@ -34,11 +35,15 @@ fn next_of_turning(
     bases: &[Seq<Solution>],
     shared: &[SharedClass],
     turning: &mut Turning,
+    effort: &mut Effort,
 ) -> Result<Drawn, NoMemory>
-    requires ready { IsReady task.now.declarations task.now.given task.now.first task.now.table state.now }
-    requires reading { IsReading task.now.declarations task.now.table (class_of state.now) reading.now }
+    requires ready { IsReady task.now.declarations task.now.given task.now.first task.now.table
+        state.now }
+    requires reading { IsReading task.now.declarations task.now.table (class_of state.now)
+        reading.now }
     requires bases { AreBases reading.now.sums bases.now }
-    requires shared { AreSharedClasses task.now.declarations task.now.table (class_of state.now) task.now.sorted shared.now }
+    requires shared { AreSharedClasses task.now.declarations task.now.table (class_of state.now)
+        task.now.sorted shared.now }
     requires turning { IsTurning task.now state.now reading.now bases.now shared.now turning.old }
     ensures turning { IsTurning task.now state.now reading.now bases.now shared.now turning.new }
     ensures fewer { (u : Substitution)
@@ -58,6 +63,7 @@ fn next_of_turning(
             None => return Ok(Drawn::Nothing),
             Some(numbers) => numbers,
         };
+        effort.count_choice();
         let drawn = draw(
             task.alloc,
             task.sig,
@@ -84,7 +90,12 @@ fn next_of_turning(
 }
 
 // The next unifier under the current tags, if there are any.
-fn next_of_current(task: &Task, state: &State, opened: &mut Opened) -> Result<Drawn, NoMemory>
+fn next_of_current(
+    task: &Task,
+    state: &State,
+    opened: &mut Opened,
+    effort: &mut Effort,
+) -> Result<Drawn, NoMemory>
     requires { IsOpened task.now state.now opened.old }
     ensures opened { IsOpened task.now state.now opened.new }
     ensures same { IsSameButCurrent opened.old opened.new }
@@ -105,6 +116,7 @@ fn next_of_current(task: &Task, state: &State, opened: &mut Opened) -> Result<Dr
                 opened.bases.as_slice(),
                 opened.shared.as_slice(),
                 turning,
+                effort,
             )?;
             Ok(drawn)
         }
@@ -160,7 +172,12 @@ fn turn(task: &Task, state: &State, opened: &mut Opened) -> Result<bool, NoMemor
 }
 
 // The next unifier of an open leaf.
-fn next_of_leaf(task: &Task, state: &State, opened: &mut Opened) -> Result<Drawn, NoMemory>
+fn next_of_leaf(
+    task: &Task,
+    state: &State,
+    opened: &mut Opened,
+    effort: &mut Effort,
+) -> Result<Drawn, NoMemory>
     requires opened { IsOpened task.now state.now opened.old }
     ensures opened { IsOpened task.now state.now opened.new }
     ensures fewer { (u : Substitution) → IsCoveredToCome task.now state.now opened.new u
@@ -171,7 +188,7 @@ fn next_of_leaf(task: &Task, state: &State, opened: &mut Opened) -> Result<Drawn
         (leaf_left task.now opened.new)) }
 {
     'tags: loop {
-        match next_of_current(task, state, opened)? {
+        match next_of_current(task, state, opened, effort)? {
             Drawn::Nothing => {}
             Drawn::TooLarge(list) => return Ok(Drawn::TooLarge(list)),
             Drawn::Unifier(g) => return Ok(Drawn::Unifier(g)),
@@ -183,19 +200,24 @@ fn next_of_leaf(task: &Task, state: &State, opened: &mut Opened) -> Result<Drawn
 }
 
 // The next unifier of the leaf that is open, if one is.
-pub(crate) fn next_in(task: &Task, leaf: &mut Option<Leaf>) -> Result<Drawn, NoMemory>
+pub(crate) fn next_in(
+    task: &Task,
+    leaf: &mut Option<Leaf>,
+    effort: &mut Effort,
+) -> Result<Drawn, NoMemory>
     requires opened { IsOpenedAt task.now leaf.old }
     ensures opened { IsOpenedAt task.now leaf.new }
     ensures fewer { (u : Substitution)
         → IsCoveredAt task.now leaf.new u → IsCoveredAt task.now leaf.old u }
     ensures drawn { AreDrawnFrom task.now (IsCoveredAt task.now leaf.old)
         (IsCoveredAt task.now leaf.new) result }
-    ensures falls { IfOk result (LeavesLess (left_at task.now leaf.old) (left_at task.now leaf.new)) }
+    ensures falls { IfOk result
+        (LeavesLess (left_at task.now leaf.old) (left_at task.now leaf.new)) }
 {
     match leaf {
         None => Ok(Drawn::Nothing),
         Some(w) => {
-            let drawn = next_of_leaf(task, &w.state, &mut w.opened)?;
+            let drawn = next_of_leaf(task, &w.state, &mut w.opened, effort)?;
             Ok(drawn)
         }
     }

@@ -55,7 +55,8 @@ fn has_one_of(columns: &[usize], parts: &[u32]) -> bool
 // Whether one of the solutions has column j and one of the constants.
 fn has_both(solutions: &[Solution], constants: &[usize], j: usize) -> bool
     requires column { All (λ v. j < length v) (vectors_of solutions.now) }
-    requires constants { All (λ v. All (λ c. c < length v) constants.now) (vectors_of solutions.now) }
+    requires constants { All (λ v. All (λ c. c < length v) constants.now)
+        (vectors_of solutions.now) }
     ensures { IsTrue result ↔ IsAloneAt constants.now (vectors_of solutions.now) j }
 {
     for solution in solutions {
@@ -74,7 +75,8 @@ fn may_be_alias(reading: &Reading, n: usize, tags: &[Option<OpId>], sums: &Sums,
     requires whole { IsWhole n reading.now }
     requires sums { IsWholeSums n sums.now }
     requires within { k < n }
-    ensures { IsTrue result ↔ (IsSharedIn reading.now k × IsBoundIn reading.now tags.now sums.now k) }
+    ensures { IsTrue result
+        ↔ (IsSharedIn reading.now k × IsBoundIn reading.now tags.now sums.now k) }
 {
     if !is_shared(reading, n, k) {
         return false;
@@ -96,7 +98,8 @@ fn is_alias_at(
     requires sums { IsWholeSums n sums.now }
     requires within { j < length sums.now.columns }
     requires column { All (λ v. j < length v) (vectors_of solutions.now) }
-    requires constants { All (λ v. All (λ c. c < length v) constants.now) (vectors_of solutions.now) }
+    requires constants { All (λ v. All (λ c. c < length v) constants.now)
+        (vectors_of solutions.now) }
     ensures { IsTrue result
         ↔ MayBeAliasIn reading.now tags.now sums.now constants.now (vectors_of solutions.now) j }
 {

@@ -62,7 +62,8 @@ pub fn theory(
     requires reading { IsReading sig.now table.now (class_of state.now) reading.now }
     requires listed { Contains reading.now.sums sums.now }
     ensures system { IfOk result (λ y. y.system ≡ sums.now.system) }
-    ensures asked { IfOk result (λ y. AreAsked sig.now table.now (class_of state.now) (tag_in tags.now)
+    ensures asked { IfOk result (λ y.
+        AreAsked sig.now table.now (class_of state.now) (tag_in tags.now)
         sums.now.operator sums.now.columns y.constants y.may_be_zero) }
     ensures whole { IfOk result IsOneTheory }
 {

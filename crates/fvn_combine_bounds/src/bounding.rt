@@ -116,7 +116,8 @@ fn narrow_columns(
     requires associative { IsAssociative (axioms sig.now sums.now.operator) }
     requires closed { IsClosed sig.now table.now state.now }
     requires sums { AreSums sig.now table.now (class_of state.now) sums.now }
-    ensures { IfOk result (λ v. AreColumnsBelow (IsNarrowColumn sig.now table.now (class_of state.now) sums.now)
+    ensures { IfOk result (λ v.
+        AreColumnsBelow (IsNarrowColumn sig.now table.now (class_of state.now) sums.now)
         (length sums.now.columns) v.items) }
 {
     let mut list = Vec::new(alloc);
@@ -142,7 +143,8 @@ fn capped_columns(
     requires closed { IsClosed sig.now table.now state.now }
     requires sums { AreSums sig.now table.now (class_of state.now) sums.now }
     requires neutral { IsTrue neutral ↔ IsNeutral sig.now sums.now.operator }
-    ensures { IfOk result (λ v. AreColumnsBelow (IsCappedColumn sig.now table.now (class_of state.now) sums.now)
+    ensures { IfOk result (λ v.
+        AreColumnsBelow (IsCappedColumn sig.now table.now (class_of state.now) sums.now)
         (length sums.now.columns) v.items) }
 {
     if neutral {
@@ -175,7 +177,8 @@ fn other_columns(
 ) -> Result<Vec<usize>, NoMemory>
     requires closed { IsClosed sig.now table.now state.now }
     requires sums { AreSums sig.now table.now (class_of state.now) sums.now }
-    ensures { IfOk result (λ v. AreColumnsBelow (IsOtherColumn sig.now table.now (class_of state.now) sums.now)
+    ensures { IfOk result (λ v.
+        AreColumnsBelow (IsOtherColumn sig.now table.now (class_of state.now) sums.now)
         (length sums.now.columns) v.items) }
 {
     let mut list = Vec::new(alloc);

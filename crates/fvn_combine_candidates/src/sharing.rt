@@ -36,7 +36,8 @@ fn may_be_sum(
     requires closed { IsClosed sig.now table.now state.now }
     requires reading { IsReading sig.now table.now (class_of state.now) reading.now }
     requires listed { Contains reading.now.sums sums.now }
-    ensures { IsTrue result ↔ MayBeSum sig.now table.now (class_of state.now) sorted sums.now.operator k }
+    ensures { IsTrue result ↔ MayBeSum sig.now table.now
+        (class_of state.now) sorted sums.now.operator k }
 {
     if !uses(sig, table, state, reading, sums, k) {
         return false;
@@ -86,7 +87,8 @@ pub fn shared(
 ) -> Result<Vec<SharedClass>, NoMemory>
     requires closed { IsClosed sig.now table.now state.now }
     requires reading { IsReading sig.now table.now (class_of state.now) reading.now }
-    ensures exact { IfOk result (λ v. AreSharedClasses sig.now table.now (class_of state.now) sorted v.items) }
+    ensures exact { IfOk result (λ v.
+        AreSharedClasses sig.now table.now (class_of state.now) sorted v.items) }
     ensures few { IfOk result (λ v. All (λ c. length c.users ≤ length reading.now.sums) v.items) }
 {
     table.recall_well_made();

@@ -56,7 +56,8 @@ fn choices_of(
     requires reading { IsReading sig.now table.now (class_of state.now) reading.now }
     requires listed { Contains reading.now.sums sums.now }
     requires basis { IsBasis sums.now.system basis.now }
-    ensures asked { IfOk result (λ c. IsWheel sig.now table.now (class_of state.now) (tag_in tags.now)
+    ensures asked { IfOk result (λ c.
+        IsWheel sig.now table.now (class_of state.now) (tag_in tags.now)
         sums.now basis.now (wheel_of c)) }
     ensures bounds { IfOk result (λ c. c.bounds ≡ unbounded) }
 {
@@ -85,7 +86,8 @@ fn bounded(
     ensures may_be_zero { IfOk result (λ c. c.may_be_zero ≡ choices.may_be_zero) }
     ensures basis { IfOk result (λ c. c.basis ≡ choices.basis) }
     ensures full { IfOk result (λ c. c.full ≡ choices.full) }
-    ensures bounds { IfOk result (λ c. HasBounds sig.now table.now (class_of state.now) sorted sums.now c.bounds) }
+    ensures bounds { IfOk result (λ c.
+        HasBounds sig.now table.now (class_of state.now) sorted sums.now c.bounds) }
 {
     if !sorted {
         return Ok(choices);
@@ -113,7 +115,8 @@ pub fn wheels(
     requires closed { IsClosed sig.now table.now state.now }
     requires reading { IsReading sig.now table.now (class_of state.now) reading.now }
     requires bases { AreBases reading.now.sums bases.now }
-    ensures asked { IfOk result (λ o. AreWheels sig.now table.now (class_of state.now) (tag_in tags.now)
+    ensures asked { IfOk result (λ o.
+        AreWheels sig.now table.now (class_of state.now) (tag_in tags.now)
         reading.now.sums bases.now o.wheels) }
     ensures bounds { IfOk result (λ o. HaveBounds sig.now table.now (class_of state.now) sorted
         reading.now.sums o.wheels) }

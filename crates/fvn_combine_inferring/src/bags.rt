@@ -78,7 +78,8 @@ pub(crate) fn bagged(
     requires insides { AreInside sig.now table.now state.now known.now.sorted insides.now }
     requires left { All (λ k. k < length table.now.nodes) first.now }
     requires right { All (λ k. k < length table.now.nodes) second.now }
-    requires sides { AreSides sig.now table.now state.now addition.now.operator first.now second.now }
+    requires sides { AreSides sig.now table.now state.now addition.now.operator first.now
+        second.now }
     ensures { IsInferred sig.now table.now state.now known.now.sorted result }
 {
     for k in first {

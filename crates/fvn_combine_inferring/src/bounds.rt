@@ -127,7 +127,8 @@ pub(crate) fn has_summand(
     requires heads { TellHeads sig.now table.now state.now known.now.sorted known.now.heads.items }
     requires addition { IsAddition sig.now table.now state.now addition.now }
     requires within { k < length table.now.nodes }
-    ensures { IsTrue result → HasSummand sig.now table.now state.now known.now.sorted addition.now.operator k }
+    ensures { IsTrue result → HasSummand sig.now table.now state.now known.now.sorted
+        addition.now.operator k }
 {
     if has_no_identity(sig.axioms(addition.operator)) {
         return true;
@@ -158,7 +159,8 @@ pub(crate) fn has_few_summands(
     requires heads { TellHeads sig.now table.now state.now known.now.sorted known.now.heads.items }
     requires addition { IsAddition sig.now table.now state.now addition.now }
     requires within { k < length table.now.nodes }
-    ensures { IsTrue result → HasFewSummands sig.now table.now state.now known.now.sorted addition.now.operator k }
+    ensures { IsTrue result → HasFewSummands sig.now table.now state.now known.now.sorted
+        addition.now.operator k }
 {
     if is_headed(sig, table, state, known, addition.operator, k) {
         return true;
@@ -180,7 +182,8 @@ pub(crate) fn is_summand(
     requires heads { TellHeads sig.now table.now state.now known.now.sorted known.now.heads.items }
     requires addition { IsAddition sig.now table.now state.now addition.now }
     requires within { k < length table.now.nodes }
-    ensures { IsTrue result → IsSummand sig.now table.now state.now known.now.sorted addition.now.operator k }
+    ensures { IsTrue result → IsSummand sig.now table.now state.now known.now.sorted
+        addition.now.operator k }
 {
     if !has_summand(sig, table, state, known, addition, k) {
         return false;
@@ -202,7 +205,8 @@ pub(crate) fn have_few_summands(
     requires heads { TellHeads sig.now table.now state.now known.now.sorted known.now.heads.items }
     requires addition { IsAddition sig.now table.now state.now addition.now }
     requires within { All (λ k. k < length table.now.nodes) list.now }
-    ensures { IsTrue result → All (HasFewSummands sig.now table.now state.now known.now.sorted addition.now.operator) list.now }
+    ensures { IsTrue result → All (HasFewSummands sig.now table.now state.now known.now.sorted
+        addition.now.operator) list.now }
 {
     for k in list {
         if !has_few_summands(sig, table, state, known, addition, *k) {
@@ -226,7 +230,8 @@ pub(crate) fn count_summands(
     requires heads { TellHeads sig.now table.now state.now known.now.sorted known.now.heads.items }
     requires addition { IsAddition sig.now table.now state.now addition.now }
     requires within { All (λ k. k < length table.now.nodes) list.now }
-    ensures { (values : ℕ → FlatTerm) → GoWithSorts sig.now table.now state.now known.now.sorted values
+    ensures { (values : ℕ → FlatTerm) → GoWithSorts sig.now table.now state.now known.now.sorted
+        values
         → result ≤ sum_by (many sig.now state.now addition.now.operator values) list.now }
 {
     let mut count = 0;

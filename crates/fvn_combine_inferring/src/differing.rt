@@ -76,7 +76,8 @@ fn is_no_summand(
     requires insides { AreInside sig.now table.now state.now known.now.sorted insides.now }
     requires within { k < length table.now.nodes }
     requires other { l < length table.now.nodes }
-    ensures { IsTrue result → IsNoSummand sig.now table.now state.now known.now.sorted addition.now.operator k l }
+    ensures { IsTrue result → IsNoSummand sig.now table.now state.now known.now.sorted
+        addition.now.operator k l }
 {
     if is_smaller(insides, l, k) {
         return true;
@@ -105,7 +106,8 @@ pub(crate) fn candidate(
     requires insides { AreInside sig.now table.now state.now known.now.sorted insides.now }
     requires within { k < length table.now.nodes }
     requires list { All (λ l. l < length table.now.nodes) list.now }
-    ensures { MatchOption result (All (IsNoSummand sig.now table.now state.now known.now.sorted addition.now.operator k) list.now)
+    ensures { MatchOption result (All
+        (IsNoSummand sig.now table.now state.now known.now.sorted addition.now.operator k) list.now)
         (λ l. l < length table.now.nodes) }
 {
     for l in list {
@@ -135,7 +137,8 @@ fn is_passed(
     requires insides { AreInside sig.now table.now state.now known.now.sorted insides.now }
     requires within { k < length table.now.nodes }
     requires other { x < length table.now.nodes }
-    ensures { IsTrue result → IsItOr (IsNoSummand sig.now table.now state.now known.now.sorted addition.now.operator k) l x }
+    ensures { IsTrue result → IsItOr
+        (IsNoSummand sig.now table.now state.now known.now.sorted addition.now.operator k) l x }
 {
     if x == l {
         return true;
@@ -162,7 +165,9 @@ pub(crate) fn is_only(
     requires insides { AreInside sig.now table.now state.now known.now.sorted insides.now }
     requires within { k < length table.now.nodes }
     requires list { All (λ x. x < length table.now.nodes) list.now }
-    ensures { IsTrue result → All (IsItOr (IsNoSummand sig.now table.now state.now known.now.sorted addition.now.operator k) l) list.now }
+    ensures { IsTrue result
+        → All (IsItOr (IsNoSummand sig.now table.now state.now known.now.sorted
+        addition.now.operator k) l) list.now }
 {
     for x in list {
         if !is_passed(sig, table, state, known, addition, insides, k, l, *x) {

@@ -46,7 +46,8 @@ fn pair(ks: &[usize]) -> Option<(usize, usize)>
 fn addends(table: &Table, f: OpId, i: usize) -> Option<(usize, usize)>
     requires { i < length table.now.nodes }
     ensures is { result ≡ addends f (slice_get table.now.nodes i) }
-    ensures within { IfSome result (λ p. (p.0 < length table.now.nodes) × (p.1 < length table.now.nodes)) }
+    ensures within { IfSome result (λ p.
+        (p.0 < length table.now.nodes) × (p.1 < length table.now.nodes)) }
 {
     table.recall_well_made();
     match table.node(i) {

@@ -50,7 +50,8 @@ fn adds_two(
     requires heads { TellHeads sig.now table.now state.now known.now.sorted known.now.heads.items }
     requires addition { IsAddition sig.now table.now state.now addition.now }
     requires within { i < length table.now.nodes }
-    ensures { IfOk result (λ r. IsTrue r → HasTwoSummands sig.now table.now state.now known.now.sorted addition.now.operator i) }
+    ensures { IfOk result (λ r. IsTrue r
+        → HasTwoSummands sig.now table.now state.now known.now.sorted addition.now.operator i) }
 {
     match added(alloc, sig, table, state, addition, i)? {
         None => Ok(false),
@@ -78,7 +79,8 @@ fn is_part(
     requires addition { IsAddition sig.now table.now state.now addition.now }
     requires part { k < length table.now.nodes }
     requires within { i < length table.now.nodes }
-    ensures { IsTrue result → IsPart sig.now table.now state.now known.now.sorted addition.now.operator k i }
+    ensures { IsTrue result → IsPart sig.now table.now state.now known.now.sorted
+        addition.now.operator k i }
 {
     if !has_summand(sig, table, state, known, addition, k) {
         return false;
@@ -100,7 +102,8 @@ fn has_part(
     requires heads { TellHeads sig.now table.now state.now known.now.sorted known.now.heads.items }
     requires addition { IsAddition sig.now table.now state.now addition.now }
     requires within { i < length table.now.nodes }
-    ensures { IsTrue result → HasTwoSummands sig.now table.now state.now known.now.sorted addition.now.operator i }
+    ensures { IsTrue result → HasTwoSummands sig.now table.now state.now known.now.sorted
+        addition.now.operator i }
 {
     table.recall_well_made();
     match split_at(table, state, addition.operator, i) {
@@ -129,7 +132,8 @@ fn is_large(
     requires heads { TellHeads sig.now table.now state.now known.now.sorted known.now.heads.items }
     requires addition { IsAddition sig.now table.now state.now addition.now }
     requires within { i < length table.now.nodes }
-    ensures { IfOk result (λ r. IsTrue r → HasTwoSummands sig.now table.now state.now known.now.sorted addition.now.operator i) }
+    ensures { IfOk result (λ r. IsTrue r
+        → HasTwoSummands sig.now table.now state.now known.now.sorted addition.now.operator i) }
 {
     if has_part(sig, table, state, known, addition, i) {
         return Ok(true);
@@ -170,7 +174,8 @@ fn note_large(
     requires closed { IsClosed sig.now table.now state.now }
     requires sums { HasSums sig.now table.now }
     requires heads { TellHeads sig.now table.now state.now known.old.sorted known.old.heads.items }
-    ensures heads { OnOk result (TellHeads sig.now table.now state.now known.new.sorted known.new.heads.items) }
+    ensures heads { OnOk result
+        (TellHeads sig.now table.now state.now known.new.sorted known.new.heads.items) }
     ensures sorted { OnOk result (known.new.sorted ≡ known.old.sorted) }
 {
     let addition = addition_of(alloc, sig, table, state, known, f)?;
@@ -209,7 +214,8 @@ pub fn known_of(
     requires closed { IsClosed sig.now table.now state.now }
     requires sums { HasSums sig.now table.now }
     requires reading { IsReading sig.now table.now (class_of state.now) reading.now }
-    ensures heads { IfOk result (λ k. TellHeads sig.now table.now state.now k.sorted k.heads.items) }
+    ensures heads { IfOk result (λ k.
+        TellHeads sig.now table.now state.now k.sorted k.heads.items) }
     ensures sorted { IfOk result (λ k. k.sorted ≡ sorted) }
 {
     table.recall_well_made();

@@ -75,7 +75,8 @@ pub(crate) fn added(
     requires within { i < length table.now.nodes }
     ensures sides { IfOk result (λ o. IfSome o (λ v.
         AreSides sig.now table.now state.now addition.now.operator (i ∷ []) v.items)) }
-    ensures within { IfOk result (λ o. IfSome o (λ v. All (λ k. k < length table.now.nodes) v.items)) }
+    ensures within { IfOk result (λ o.
+        IfSome o (λ v. All (λ k. k < length table.now.nodes) v.items)) }
 {
     table.recall_well_made();
     let _sig = sig;
@@ -120,8 +121,10 @@ pub(crate) fn row_at(
     requires within { i < length table.now.nodes }
     ensures sides { IfOk result (λ o. IfSome o (λ r.
         AreSides sig.now table.now state.now addition.now.operator r.left.items r.right.items)) }
-    ensures left { IfOk result (λ o. IfSome o (λ r. All (λ k. k < length table.now.nodes) r.left.items)) }
-    ensures right { IfOk result (λ o. IfSome o (λ r. All (λ k. k < length table.now.nodes) r.right.items)) }
+    ensures left { IfOk result (λ o.
+        IfSome o (λ r. All (λ k. k < length table.now.nodes) r.left.items)) }
+    ensures right { IfOk result (λ o.
+        IfSome o (λ r. All (λ k. k < length table.now.nodes) r.right.items)) }
 {
     table.recall_well_made();
     let _sig = sig;

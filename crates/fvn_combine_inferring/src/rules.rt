@@ -139,7 +139,8 @@ fn counted(
     requires addition { IsAddition sig.now table.now state.now addition.now }
     requires left { All (λ k. k < length table.now.nodes) first.now }
     requires right { All (λ k. k < length table.now.nodes) second.now }
-    requires sides { AreSides sig.now table.now state.now addition.now.operator first.now second.now }
+    requires sides { AreSides sig.now table.now state.now addition.now.operator first.now
+        second.now }
     ensures { IsInferred sig.now table.now state.now known.now.sorted result }
 {
     if !have_few_summands(sig, table, state, known, addition, second) {

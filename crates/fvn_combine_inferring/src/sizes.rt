@@ -170,7 +170,8 @@ fn followed(mark: u8, proper: bool) -> u8
 
 // Notes what follows by one pair; answers whether it was new.
 fn follow(marks: &mut [u8], pair: &Inside) -> bool
-    ensures { (w : ℕ → ℕ) (k : ℕ) → IsSaid w pair.now → AreNoted w k marks.old → AreNoted w k marks.new }
+    ensures { (w : ℕ → ℕ) (k : ℕ) → IsSaid w pair.now → AreNoted w k marks.old
+        → AreNoted w k marks.new }
 {
     let mark = noted(marks, pair.small);
     if mark == 0 {
@@ -181,7 +182,8 @@ fn follow(marks: &mut [u8], pair: &Inside) -> bool
 
 // Notes what follows by each of the pairs; answers whether anything was new.
 fn follow_all(marks: &mut [u8], pairs: &[Inside]) -> bool
-    ensures { (w : ℕ → ℕ) (k : ℕ) → AreSaid w pairs.now → AreNoted w k marks.old → AreNoted w k marks.new }
+    ensures { (w : ℕ → ℕ) (k : ℕ) → AreSaid w pairs.now → AreNoted w k marks.old
+        → AreNoted w k marks.new }
 {
     let mut changed = false;
     for pair in pairs {
@@ -193,7 +195,8 @@ fn follow_all(marks: &mut [u8], pairs: &[Inside]) -> bool
 
 // Notes what follows, round by round, as long as anything is new.
 fn follow_chains(marks: &mut [u8], pairs: &[Inside])
-    ensures { (w : ℕ → ℕ) (k : ℕ) → AreSaid w pairs.now → AreNoted w k marks.old → AreNoted w k marks.new }
+    ensures { (w : ℕ → ℕ) (k : ℕ) → AreSaid w pairs.now → AreNoted w k marks.old
+        → AreNoted w k marks.new }
 {
     for _round in 0..ROUNDS {
         if !follow_all(marks, pairs) {

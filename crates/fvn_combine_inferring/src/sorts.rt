@@ -16,7 +16,8 @@ use std::alloc::Global;
 fn is_narrow_node(sig: &Signature, table: &Table, state: &State, f: OpId, i: usize) -> bool
     requires associative { IsAssociative (axioms sig.now f) }
     requires within { i < length table.now.nodes }
-    ensures { IsTrue result → IsNarrow sig.now table.now (class_of state.now) f (class_of state.now i) }
+    ensures { IsTrue result → IsNarrow sig.now table.now (class_of state.now) f
+        (class_of state.now i) }
 {
     let _state = state;
     match table.node(i) {
@@ -28,7 +29,8 @@ fn is_narrow_node(sig: &Signature, table: &Table, state: &State, f: OpId, i: usi
 // Whether node i is a variable of a sort that does not admit the identity.
 fn is_other_node(sig: &Signature, table: &Table, state: &State, f: OpId, i: usize) -> bool
     requires { i < length table.now.nodes }
-    ensures { IsTrue result → IsNeverIdentity sig.now table.now (class_of state.now) f (class_of state.now i) }
+    ensures { IsTrue result → IsNeverIdentity sig.now table.now (class_of state.now) f
+        (class_of state.now i) }
 {
     let _state = state;
     match table.node(i) {
@@ -62,8 +64,10 @@ fn unmarked(alloc: Global, count: usize) -> Result<Vec<bool>, NoMemory>
 fn mark_narrow(sig: &Signature, table: &Table, state: &State, f: OpId, marks: &mut Vec<bool>)
     requires associative { IsAssociative (axioms sig.now f) }
     requires closed { IsClosed sig.now table.now state.now }
-    requires marks { AreMarks (length table.now.nodes) (IsNarrow sig.now table.now (class_of state.now) f) marks.old.items }
-    ensures { AreMarks (length table.now.nodes) (IsNarrow sig.now table.now (class_of state.now) f) marks.new.items }
+    requires marks { AreMarks (length table.now.nodes)
+        (IsNarrow sig.now table.now (class_of state.now) f) marks.old.items }
+    ensures { AreMarks (length table.now.nodes)
+        (IsNarrow sig.now table.now (class_of state.now) f) marks.new.items }
 {
     for i in 0..table.nodes().len() {
         let is = is_narrow_node(sig, table, state, f, i);
@@ -74,8 +78,10 @@ fn mark_narrow(sig: &Signature, table: &Table, state: &State, f: OpId, marks: &m
 // Marks of the classes with a variable whose sort does not admit the identity.
 fn mark_other(sig: &Signature, table: &Table, state: &State, f: OpId, marks: &mut Vec<bool>)
     requires closed { IsClosed sig.now table.now state.now }
-    requires marks { AreMarks (length table.now.nodes) (IsNeverIdentity sig.now table.now (class_of state.now) f) marks.old.items }
-    ensures { AreMarks (length table.now.nodes) (IsNeverIdentity sig.now table.now (class_of state.now) f) marks.new.items }
+    requires marks { AreMarks (length table.now.nodes)
+        (IsNeverIdentity sig.now table.now (class_of state.now) f) marks.old.items }
+    ensures { AreMarks (length table.now.nodes)
+        (IsNeverIdentity sig.now table.now (class_of state.now) f) marks.new.items }
 {
     for i in 0..table.nodes().len() {
         let is = is_other_node(sig, table, state, f, i);
@@ -94,7 +100,8 @@ pub(crate) fn narrow_marks(
 ) -> Result<Vec<bool>, NoMemory>
     requires associative { IsAssociative (axioms sig.now f) }
     requires closed { IsClosed sig.now table.now state.now }
-    ensures { IfOk result (λ v. AreMarks (length table.now.nodes) (IsNarrow sig.now table.now (class_of state.now) f) v.items) }
+    ensures { IfOk result (λ v. AreMarks (length table.now.nodes)
+        (IsNarrow sig.now table.now (class_of state.now) f) v.items) }
 {
     let mut marks = unmarked(alloc, table.nodes().len())?;
     if !sorted {
@@ -114,7 +121,8 @@ pub(crate) fn other_marks(
     sorted: bool,
 ) -> Result<Vec<bool>, NoMemory>
     requires { IsClosed sig.now table.now state.now }
-    ensures { IfOk result (λ v. AreMarks (length table.now.nodes) (IsNeverIdentity sig.now table.now (class_of state.now) f) v.items) }
+    ensures { IfOk result (λ v. AreMarks (length table.now.nodes)
+        (IsNeverIdentity sig.now table.now (class_of state.now) f) v.items) }
 {
     let mut marks = unmarked(alloc, table.nodes().len())?;
     if !sorted {

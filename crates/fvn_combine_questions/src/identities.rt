@@ -56,7 +56,8 @@ pub(crate) fn identity_question(
     requires naming { IsNaming state.now }
     requires whole { length state.now.names ≡ length table.now.nodes }
     requires reading { IsWhole (length state.now.names) reading.now }
-    ensures { IsOpenPairOr state.now ((k : ℕ) → k < length state.now.names → IsSharedIn reading.now k
+    ensures { IsOpenPairOr state.now ((k : ℕ) → k < length state.now.names
+        → IsSharedIn reading.now k
         → ArePastIdentities table.now state.now reading.now.sums k) result }
 {
     let n = state.names.len();

@@ -40,7 +40,8 @@ fn classes_among(
     f: OpId,
 ) -> Result<Vec<usize>, NoMemory>
     requires whole { length state.now.names ≡ length table.now.nodes }
-    ensures { IfOk result (λ v. v.items ≡ classes_among (class_of state.now) table.now f table.now.subterms) }
+    ensures { IfOk result (λ v.
+        v.items ≡ classes_among (class_of state.now) table.now f table.now.subterms) }
 {
     table.recall_well_made();
     let mut classes = Vec::new(alloc);

@@ -22,7 +22,8 @@ fn stands_in(state: &State, k: usize, i: usize) -> i32
 // In the column of k: the arguments of a sum, less the sum itself.
 fn coefficient(state: &State, i: usize, pair: Option<(usize, usize)>, k: usize) -> i32
     requires sum { i < length state.now.names }
-    requires pair { IfSome pair (λ p. (p.0 < length state.now.names) × (p.1 < length state.now.names)) }
+    requires pair { IfSome pair (λ p. (p.0 < length state.now.names)
+        × (p.1 < length state.now.names)) }
     ensures { result ≡ coefficient (class_of state.now) i pair k }
 {
     match pair {
@@ -42,7 +43,8 @@ fn row_at(
 ) -> Result<Row, NoMemory>
     requires whole { length state.now.names ≡ length table.now.nodes }
     requires within { i < length table.now.nodes }
-    ensures { IfOk result (λ r. r.coefficients ≡ row_at table.now (class_of state.now) f columns.now i) }
+    ensures { IfOk result (λ r.
+        r.coefficients ≡ row_at table.now (class_of state.now) f columns.now i) }
 {
     let pair = addends(table, f, i);
     let mut coefficients = Vec::new(alloc);

@@ -34,7 +34,8 @@ pub fn sum_system(
     requires few { length table.now.subterms ≤ COLUMNS }
 
     // The columns and rows are those of the operator's sums, and a solver of systems takes them.
-    ensures exact { IfOk result (λ r. IsNodeSystem table.now (class_of state.now) f r.columns r.system) }
+    ensures exact { IfOk result (λ r.
+        IsNodeSystem table.now (class_of state.now) f r.columns r.system) }
     ensures system { IfOk result (λ r. IsSystem r.system) }
 {
     let columns = columns_of(alloc, table, state, f)?;

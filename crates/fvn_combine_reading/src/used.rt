@@ -18,7 +18,8 @@ fn is_other(row: &Row, j: usize) -> bool
 // Whether some row has a coefficient other than zero in column j.
 fn is_used(rows: &[Row], j: usize) -> bool
     requires { All (λ row. j < length row) (coefficients_of rows.now) }
-    ensures { IsTrue result ↔ Any (λ row. slice_index_or row j (pos 0) ≢ pos 0) (coefficients_of rows.now) }
+    ensures { IsTrue result ↔ Any (λ row. slice_index_or row j (pos 0) ≢ pos 0)
+        (coefficients_of rows.now) }
 {
     for row in rows {
         if is_other(row, j) {

@@ -70,7 +70,8 @@ impl Draft {
     fn note(&mut self, start: usize, node: Node) -> Result<usize, NoMemory>
         requires { start < length self.old.walk.items }
         ensures entered { IfOk result (IsEntered self.old.nodes.items self.new.nodes.items node) }
-        ensures noted { IfOk result (λ i. self.new.walk.items ≡ slice_set self.old.walk.items start i) }
+        ensures noted { IfOk result (λ i.
+            self.new.walk.items ≡ slice_set self.old.walk.items start i) }
     {
         let place = enter(&mut self.nodes, node)?;
         write(&mut self.walk, start, place);
@@ -108,7 +109,8 @@ impl Draft {
         ensures nodes { OnOk result (AreNodes self.new.nodes.items) }
         ensures walked { OnOk result (HasWalked self.old self.new (subterms_among us.now)) }
         ensures within { IfOk result (λ ks. All (λ k. k < length self.new.nodes.items) ks.items) }
-        ensures are { IfOk result (λ ks. pack (map (term_at self.new.nodes.items) ks.items) ≡ us.now) }
+        ensures are { IfOk result (λ ks.
+            pack (map (term_at self.new.nodes.items) ks.items) ≡ us.now) }
     {
         let mut kids = Vec::new(alloc);
         for u in &us.items {
@@ -141,7 +143,8 @@ impl Draft {
     ) -> Result<Vec<(usize, usize)>, NoMemory>
         requires nodes { AreNodes self.old.nodes.items }
         ensures nodes { OnOk result (AreNodes self.new.nodes.items) }
-        ensures walked { OnOk result (HasWalked self.old self.new (subterms_of (plain_pairs pairs.now))) }
+        ensures walked { OnOk result
+            (HasWalked self.old self.new (subterms_of (plain_pairs pairs.now))) }
         ensures sides { IfOk result (λ sides. AreSides self.new.nodes.items sides.items
             (plain_pairs pairs.now)) }
     {

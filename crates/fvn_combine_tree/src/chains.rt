@@ -80,7 +80,8 @@ fn key_over(names: &[usize], by: By, i: usize, f: OpId, ks: &[usize]) -> usize
 fn key_at(table: &Table, names: &[usize], by: By, i: usize) -> usize
     requires whole { length names.now ≡ length table.now.nodes }
     requires within { i < length names.now }
-    ensures { (f : OpId) (ks : List ℕ) → IsOver table.now.nodes i f ks → result ≡ key_of names.now by i f ks }
+    ensures { (f : OpId) (ks : List ℕ) → IsOver table.now.nodes i f ks
+        → result ≡ key_of names.now by i f ks }
 {
     table.recall_well_made();
     match table.node(i) {

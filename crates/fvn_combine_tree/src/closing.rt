@@ -108,10 +108,12 @@ impl Closing {
     // Puts the first two nodes into one class, and the other two.
     fn join_both(&mut self, first: (usize, usize), second: (usize, usize)) -> Move
         requires naming { IsNaming (state_of self.old) }
-        requires first { (first.0 < length self.old.names.items) × (first.1 < length self.old.names.items) }
+        requires first { (first.0 < length self.old.names.items)
+            × (first.1 < length self.old.names.items) }
         requires second { (second.0 < length self.old.names.items)
             × (second.1 < length self.old.names.items) }
-        ensures { HasMoved (λ class. (class first.0 ≡ class first.1) × (class second.0 ≡ class second.1))
+        ensures { HasMoved (λ class. (class first.0 ≡ class first.1)
+            × (class second.0 ≡ class second.1))
             (λ s. (class_of s first.0 ≡ class_of s first.1) × (class_of s second.0 ≡ class_of s second.1))
             (state_of self.old) (state_of self.new) result }
     {
@@ -276,7 +278,8 @@ impl Closing {
         requires naming { IsNaming (state_of self.old) }
         requires whole { length self.old.names.items ≡ length table.now.nodes }
         requires room { HasRoom (length table.now.nodes) chains.now }
-        requires chained { IsChained (length table.now.nodes) chains.now.keys.items chains.now.before.items }
+        requires chained { IsChained (length table.now.nodes) chains.now.keys.items
+            chains.now.before.items }
         requires within { i < length table.now.nodes }
         ensures { HasMoved (IsNodePartition sig.now table.now)
             (IsChainSettled sig.now table.now chains.now.keys.items i 0) (state_of self.old) (state_of self.new) result }
@@ -301,7 +304,8 @@ impl Closing {
         requires naming { IsNaming (state_of self.old) }
         requires whole { length self.old.names.items ≡ length table.now.nodes }
         requires room { HasRoom (length table.now.nodes) chains.now }
-        requires chained { IsChained (length table.now.nodes) chains.now.keys.items chains.now.before.items }
+        requires chained { IsChained (length table.now.nodes) chains.now.keys.items
+            chains.now.before.items }
         ensures { HasMoved (IsNodePartition sig.now table.now)
             (AreChainsSettled sig.now table.now chains.now.keys.items (length table.now.nodes))
             (state_of self.old) (state_of self.new) result }
@@ -323,7 +327,8 @@ impl Closing {
         requires whole { length self.old.names.items ≡ length table.now.nodes }
         requires room { HasRoom (length table.now.nodes) chains.old }
         ensures room { HasRoom (length table.now.nodes) chains.new }
-        ensures moved { HasMoved (IsNodePartition sig.now table.now) (IsSettledBy sig.now table.now by)
+        ensures moved { HasMoved (IsNodePartition sig.now table.now)
+            (IsSettledBy sig.now table.now by)
             (state_of self.old) (state_of self.new) result }
     {
         chains.chain(table, self.names.as_slice(), by);
@@ -336,7 +341,8 @@ impl Closing {
         requires whole { length self.old.names.items ≡ length table.now.nodes }
         requires room { HasRoom (length table.now.nodes) chains.old }
         ensures room { HasRoom (length table.now.nodes) chains.new }
-        ensures moved { HasMoved (IsNodePartition sig.now table.now) (IsAllSettled sig.now table.now)
+        ensures moved { HasMoved (IsNodePartition sig.now table.now)
+            (IsAllSettled sig.now table.now)
             (state_of self.old) (state_of self.new) result }
     {
         let one = self.settle_by(sig, table, chains, By::Class);
@@ -414,7 +420,8 @@ impl Closing {
         requires whole { length self.old.names.items ≡ length table.now.nodes }
         requires room { HasRoom (length table.now.nodes) chains.old }
         ensures room { HasRoom (length table.now.nodes) chains.new }
-        ensures moved { HasMoved (IsNodePartition sig.now table.now) (IsAllSettled sig.now table.now)
+        ensures moved { HasMoved (IsNodePartition sig.now table.now)
+            (IsAllSettled sig.now table.now)
             (state_of self.old) (state_of self.new) result }
     {
         match self.settle_heads(sig, table, chains, up) {
@@ -444,7 +451,8 @@ impl Closing {
     // Whether nodes that are kept apart are in one class.
     fn meets_apart(&self) -> bool
         requires naming { IsNaming (state_of self.now) }
-        ensures { result ≡ list_any (λ p. is_same (state_of self.now) p.0 p.1) self.now.apart.items }
+        ensures { result ≡ list_any (λ p. is_same (state_of self.now) p.0 p.1)
+            self.now.apart.items }
     {
         for (i, j) in self.apart.as_slice() {
             if self.names[*i] == self.names[*j] {

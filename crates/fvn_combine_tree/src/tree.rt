@@ -156,7 +156,8 @@ impl Tree {
         requires left { i < length table.now.nodes }
         requires right { j < length table.now.nodes }
         requires open { IsOpenAtTop self.old i j }
-        ensures met { OnOk result (IsTakenOn sig.now table.now (λ class. class i ≡ class j) self.old self.new) }
+        ensures met { OnOk result
+            (IsTakenOn sig.now table.now (λ class. class i ≡ class j) self.old self.new) }
         ensures closed { AreClosed sig.now table.now self.new }
         // Of two states the one in which nodes are together is looked at first.
         ensures ordered { AreInOrder self.old → AreInOrder self.new }
@@ -185,7 +186,8 @@ impl Tree {
         requires left { i < length table.now.nodes }
         requires right { j < length table.now.nodes }
         requires open { IsOpenAtTop self.old i j }
-        ensures parted { OnOk result (IsTakenOn sig.now table.now (λ class. class i ≢ class j) self.old self.new) }
+        ensures parted { OnOk result
+            (IsTakenOn sig.now table.now (λ class. class i ≢ class j) self.old self.new) }
         ensures closed { AreClosed sig.now table.now self.new }
         // Of two states the one in which nodes are together is looked at first.
         ensures ordered { AreInOrder self.old → AreInOrder self.new }

@@ -122,7 +122,8 @@ pub(crate) fn all_shares(
     requires sized { AreSized reading.now bases.now numbers.now }
     requires names { length names.now ≡ length table.now.nodes }
     requires room { start + most * length reading.now.sums < 2 ^ 32 }
-    ensures { IfOk result (λ v. AreAllShares sig.now table.now (class_of state.now) (tag_in tags.now)
+    ensures { IfOk result (λ v.
+        AreAllShares sig.now table.now (class_of state.now) (tag_in tags.now)
         reading.now.sums bases.now numbers.now names.now start (map (λ w. w.items) v.items)) }
 {
     let mut all = Vec::new(alloc);

@@ -38,7 +38,8 @@ pub(crate) fn names_over(
 
 // The place of the first column of class k; past all columns where there is none.
 fn column_of(columns: &[usize], k: usize) -> usize
-    ensures { (v : List ℕ) → length v ≡ length columns.now → component columns.now v k ≡ slice_index_or v result 0 }
+    ensures { (v : List ℕ) → length v ≡ length columns.now
+        → component columns.now v k ≡ slice_index_or v result 0 }
 {
     for j in 0..columns.len() {
         if columns[j] == k {

@@ -5,6 +5,7 @@ ghost use Rattle.fvn_cover.specs.Covering.{values_of, CoversVariant, AreAlike, I
 ghost use Rattle.fvn_cover.specs.inner.Profiled.{IsProfiled, IsMarked};
 
 use crate::covering::Shown;
+use crate::reach::may_reach_all;
 use crate::values::values;
 use crate::variant::Variant;
 use fvn_cover_counts::{Marks, Profile, Unkept};
@@ -129,7 +130,7 @@ impl Kept {
         Ok(r)
     }
 
-    // Whether this one covers the other; the marks alone are looked at first, since they refuse most.
+    // Whether this one covers the other; marks and sorts alone are looked at first, since they refuse most.
     #[inline(always)]
     pub(crate) fn is_covering(
         &self,
@@ -144,21 +145,37 @@ impl Kept {
         requires that { IsFlatVariant sig.now other.now }
         ensures { IfOk result (λ r. IsTrue r ↔ CoversVariant sig.now self.now other.now) }
     {
-        if !self.marks.may_cover(out, &other.marks) {
+        if !self.may_cover(sig, out, other) {
             return Ok(false);
         }
         let r = self.is_covering_shown(alloc, sig, out, other)?;
         Ok(r)
     }
 
-    // Whether the marks leave it open that this one covers the other.
+    // Whether the marks, and the sorts of values that are variables, leave it open that this one covers the other.
+    #[inline(always)]
     pub(crate) fn may_cover(&self, sig: &Signature, out: Unkept, other: &Kept) -> bool
         requires out { AreUnkept sig.now out }
         requires alike { AreAlike self.now other.now }
+        requires that { IsFlatVariant sig.now other.now }
         ensures { result ≡ false → CoversVariant sig.now self.now other.now → ⊥ }
     {
+        if !self.marks.may_cover(out, &other.marks) {
+            return false;
+        }
+        may_reach_all(sig, self.values.as_slice(), other.values.as_slice())
+    }
+
+    // Whether the marks refuse that one of the two covers the other.
+    #[inline(always)]
+    pub(crate) fn is_apart_from(&self, sig: &Signature, out: Unkept, other: &Kept) -> bool
+        requires out { AreUnkept sig.now out }
+        requires alike { AreAlike self.now other.now }
+        ensures this { IsTrue result → CoversVariant sig.now self.now other.now → ⊥ }
+        ensures that { IsTrue result → CoversVariant sig.now other.now self.now → ⊥ }
+    {
         let _sig = sig;
-        self.marks.may_cover(out, &other.marks)
+        self.marks.are_apart(out, &other.marks)
     }
 
     /// The variant alone.

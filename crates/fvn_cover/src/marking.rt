@@ -57,7 +57,8 @@ fn run<R: Threads + Sync, G: Gate>(
 ) -> Result<Vec<bool>, NoMemory>
     requires range { IsRange work.now.count work.now.pieces low high (length candidates.now) }
     requires comparable { AreComparable work.now.sig.now work.now.kept.now candidates.now }
-    ensures { IfOk result (λ marks. AreMarks work.now.sig.now work.now.kept.now candidates.now marks.items) }
+    ensures { IfOk result (λ marks.
+        AreMarks work.now.sig.now work.now.kept.now candidates.now marks.items) }
 {
     if high - low == 1 {
         work.gate.enter(low);

@@ -54,11 +54,15 @@ fn looked_through(alloc: Global, sig: &Signature, list: &[Kept], v: &Kept) -> Re
     requires flat { IsFlatVariant sig.now v.now × All (IsFlatVariant sig.now) list.now }
     requires alike { All (λ k. AreAlike k v.now) list.now }
     ensures covered { IfOk result (λ l. IsTrue l.covered ↔ IsCoveredBySome sig.now list.now v.now) }
-    ensures open { IfOk result (λ l. l.open ≡ false → Any (CoversVariant sig.now v.now) list.now → ⊥) }
+    ensures open { IfOk result (λ l. l.open ≡ false → Any (CoversVariant sig.now v.now) list.now
+        → ⊥) }
 {
     let out = Unkept::of(sig);
     let mut open = false;
     for k in list {
+        if k.is_apart_from(sig, out, v) {
+            continue;
+        }
         if k.is_covering(alloc, sig, out, v)? {
             return Ok(Look {
                 covered: true,

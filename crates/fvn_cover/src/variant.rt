@@ -13,6 +13,7 @@ pub struct Variant {
     pub vars: Seq<Var>,
 }
 
+// Takes only what may be sent to and shared between threads.
 fn shared<T: Send + Sync>(_value: &T) {}
 
 /// Variants may be sent to and shared between threads.

@@ -50,7 +50,8 @@ fn is_within(v: u64, w: u64) -> bool
 impl Marks {
     /// The marks of so many terms of which the profile was counted, without these operators.
     pub fn of(out: Unkept, profile: &Profile, count: usize) -> Marks
-        ensures marks { (ts : List FlatTerm) → IsProfile ts profile.now → length ts ≡ count → AreMarks ts result }
+        ensures marks { (ts : List FlatTerm) → IsProfile ts profile.now → length ts ≡ count
+            → AreMarks ts result }
         ensures out { result.out ≡ out }
     {
         Marks {
@@ -69,9 +70,11 @@ impl Marks {
 
     // Whether the other has what this one has and an instance keeps, and this one what it cannot gain.
     fn are_within(&self, other: &Marks) -> bool
-        ensures { IsTrue result ↔ (IsWithin self.now.up other.now.up × IsWithin other.now.down self.now.down) }
+        ensures { IsTrue result
+            ↔ (IsWithin self.now.up other.now.up × IsWithin other.now.down self.now.down) }
     {
-        is_within(self.up, other.up) && is_within(other.down, self.down)
+        // Both words are compared before it is asked what either tells, since which of them refuses cannot be foreseen.
+        is_within(self.up, other.up) & is_within(other.down, self.down)
     }
 
     /// Whether the marks allow that some substitution makes the terms of the other from those of these.
@@ -85,5 +88,19 @@ impl Marks {
             return true;
         }
         self.are_within(other)
+    }
+
+    /// Whether the marks refuse that some substitution makes the terms of the other from those of these,
+    /// and that one makes these from those of the other.
+    pub fn are_apart(&self, out: Unkept, other: &Marks) -> bool
+        ensures there { IsTrue result → NeverMatchMarked out self.now other.now }
+        ensures back { IsTrue result → NeverMatchMarked out other.now self.now }
+    {
+        if !self.are_without(out, other) {
+            return false;
+        }
+        let there = self.are_within(other);
+        let back = other.are_within(self);
+        !(there | back)
     }
 }

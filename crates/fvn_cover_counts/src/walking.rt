@@ -23,7 +23,8 @@ fn with_symbols(
     place: u64,
 ) -> Result<Vec<Row>, NoMemory>
     requires { Settled sig.now t.now }
-    ensures { IfOk result (λ all. Notes rows.items (λ s. replicate (times s (plain t.now)) place) all.items) }
+    ensures { IfOk result (λ all.
+        Notes rows.items (λ s. replicate (times s (plain t.now)) place) all.items) }
 {
     let mut all = with_symbol(alloc, rows, top_symbol(t), place, further(sig, t))?;
     for u in t.args() {
@@ -42,7 +43,8 @@ pub(crate) fn with_all_symbols(
 ) -> Result<Vec<Row>, NoMemory>
     requires settled { AllByRecursion (Settled sig.now) terms.now }
     requires room { first + length terms.now < 2 ^ 64 }
-    ensures { IfOk result (λ all. Notes rows.items (λ s. places_from first (column s terms.now)) all.items) }
+    ensures { IfOk result (λ all.
+        Notes rows.items (λ s. places_from first (column s terms.now)) all.items) }
 {
     let mut all = rows;
     let mut place = first;

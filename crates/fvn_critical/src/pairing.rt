@@ -37,7 +37,8 @@ fn tried<A: AxiomSolver>(
     s: &Subst,
 ) -> Result<Option<CriticalFault>, NoMemory>
     requires overlap { IsTestable tester.now.rewriter meeting.now }
-    requires whole { PutAs tester.now.rewriter.signature meeting.now.path.now meeting.now.outer.now.left
+    requires whole { PutAs tester.now.rewriter.signature meeting.now.path.now
+        meeting.now.outer.now.left
         meeting.now.inner.now.right whole.now }
     requires unifier { IsDrawnFor tester.now.rewriter (A.drawn tester.now.solver.now)
         (overlap_in meeting.now) s.now }
@@ -82,7 +83,8 @@ pub(crate) fn all_tried<A: AxiomSolver>(
     unifiers: &[Subst],
 ) -> Result<Option<CriticalFault>, NoMemory>
     requires overlap { IsTestable tester.now.rewriter meeting.now }
-    requires whole { PutAs tester.now.rewriter.signature meeting.now.path.now meeting.now.outer.now.left
+    requires whole { PutAs tester.now.rewriter.signature meeting.now.path.now
+        meeting.now.outer.now.left
         meeting.now.inner.now.right whole.now }
     requires unifiers { All (IsDrawnFor tester.now.rewriter (A.drawn tester.now.solver.now)
         (overlap_in meeting.now))

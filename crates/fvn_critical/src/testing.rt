@@ -139,7 +139,8 @@ fn fault_along<A: AxiomSolver>(
     requires list { list.now ≡ paths new.now.rule.left }
     ensures { IfOk result (TestedAs tester.now.rewriter (A.drawn tester.now.solver.now)
         (A.most_unifiers tester.now.solver.now)
-        (Each (IsJoinedAt tester.now.rewriter tester.now.chosen.now later.now new.now.rule) list.now)) }
+        (Each (IsJoinedAt tester.now.rewriter tester.now.chosen.now later.now new.now.rule)
+        list.now)) }
 {
     for path in list {
         let fault = fault_at(tester, alloc, new, later, path.as_slice())?;
@@ -236,7 +237,8 @@ pub fn critical_fault<A: AxiomSolver>(
     requires size { A.most_symbols solver.now ≡ bounds.size }
     // Nothing shows confluence where the equations terminate, and each fault shows itself.
     ensures told { IfOk result
-        (IsAnswer (rewriting_of sig.now rules.now bounds) (A.drawn solver.now) (A.most_unifiers solver.now)) }
+        (IsAnswer (rewriting_of sig.now rules.now bounds) (A.drawn solver.now)
+        (A.most_unifiers solver.now)) }
     // The first equation that loses a sort comes before all else.
     ensures sorts { IfOk result (TellsFirstLoss (rewriting_of sig.now rules.now bounds)) }
     // Confluent equations that lose no sort have no fault but that a limit was met.

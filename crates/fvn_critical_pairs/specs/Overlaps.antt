@@ -132,4 +132,5 @@ pub record IsJoined (d : Declarations) (equations : Equations) (lists : RuleList
   pub new : Rule
   pub renewed : IsRenewed d next rule new
   pub joins : (o : Overlap) → o.outer ≡ new → IsOverlapWith lists o → Contains chosen o.inner → (o.path ≡ [] → ⊥) → Joins d equations o
-  pub whole : (inner : Rule) → Contains chosen inner → (f : OpId) → head_of rule.left ≡ Some f → head_of inner.left ≡ Some f → JoinEitherWay d equations rule inner
+  pub whole : (inner : Rule) → Contains chosen inner → (f : OpId) → head_of rule.left ≡ Some f →
+      head_of inner.left ≡ Some f → JoinEitherWay d equations rule inner

@@ -152,6 +152,7 @@ impl Explored {
     }
 }
 
+// Takes only what may be sent to and shared between threads.
 fn shared<T: Send + Sync>(_value: &T) {}
 
 /// Expansions may be sent to and shared between threads.

@@ -40,7 +40,9 @@ module _ (d : Declarations) (vars : List Var) (s : Substitution) where
   -- no other way has sorts at or above these
   pub record IsMaximalWay (way : Var → SortId) : Type 0 where
     pub is_way : IsWay way
-    pub maximal : (other : Var → SortId) → IsWay other → ((y : Var) → OccursInValues vars s y → AtOrBelow d (way y) (other y)) → (y : Var) → OccursInValues vars s y → other y ≡ way y
+    pub maximal : (other : Var → SortId) → IsWay other →
+        ((y : Var) → OccursInValues vars s y → AtOrBelow d (way y) (other y)) → (y : Var) →
+        OccursInValues vars s y → other y ≡ way y
 
 -- s is on the problem's variables what a solved list unfolds to, its variables with sorts in a maximal way and with new names
 pub record IsDrawn (d : Declarations) (problem : Problem) (s : Substitution) : Type 0 where

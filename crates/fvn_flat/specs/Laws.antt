@@ -17,14 +17,19 @@ EqualPairsHaveOneAnswer = (d : Declarations) (problem other : Problem) → ArePa
 
 -- flattened pairs have the answer of the plain pairs
 abbrev pub FlattenedPairsHaveOneAnswer : Type 0
-FlattenedPairsHaveOneAnswer = (d : Declarations) → FitsKinds d → (problem : Problem) → IsProblem d problem → HaveOneAnswer d problem (plain_pairs (flat_pairs d problem))
+FlattenedPairsHaveOneAnswer = (d : Declarations) → FitsKinds d → (problem : Problem) → IsProblem d problem →
+    HaveOneAnswer d problem (plain_pairs (flat_pairs d problem))
 
 -- flattened pairs of terms of one kind may be given to a solver
 abbrev pub FlattenedPairsAreGiven : Type 0
-FlattenedPairsAreGiven = (d : Declarations) → FitsKinds d → (problem : Problem) → IsProblem d problem → (given : Pairs) → given.pairs ≡ flat_pairs d problem → (first : ℕ) → HasRoom problem first → IsGiven d given first
+FlattenedPairsAreGiven = (d : Declarations) → FitsKinds d → (problem : Problem) → IsProblem d problem →
+    (given : Pairs) → given.pairs ≡ flat_pairs d problem → (first : ℕ) → HasRoom problem first →
+    IsGiven d given first
 
 -- an answer to the flattened pairs is one to the pairs
 abbrev pub AnswersToFlattenedPairs : Type 0
 AnswersToFlattenedPairs =
-    (d : Declarations) → FitsKinds d → (problem : Problem) → IsProblem d problem → (given : Pairs) → given.pairs ≡ flat_pairs d problem → (r : Solved) → AreUnifiers d given r → AreApart d given r → AreComplete d given r →
+    (d : Declarations) → FitsKinds d → (problem : Problem) → IsProblem d problem → (given : Pairs) →
+    given.pairs ≡ flat_pairs d problem → (r : Solved) → AreUnifiers d given r → AreApart d given r →
+    AreComplete d given r →
     IsAnswerTo d problem (map substitution r.unifiers) (r.end ≡ Complete)

@@ -49,11 +49,15 @@ module _ (d : Declarations) (problem : Problem) where
     -- nodes that are equal modulo the axioms are in one class
     pub equal : (t u : Term) → IsNode t → IsNode u → BEqual d t u → class t ≡ class u
     -- nodes that one operator heads over arguments in one class, place by place, are in one class
-    pub congruent : (f : OpId) (ts us : Terms) → IsNode (app f ts) → IsNode (app f us) → PlaceByPlace class ts us → class (app f ts) ≡ class (app f us)
+    pub congruent : (f : OpId) (ts us : Terms) → IsNode (app f ts) → IsNode (app f us) →
+        PlaceByPlace class ts us → class (app f ts) ≡ class (app f us)
     -- two members of a class whose operators have no identity are headed by one operator
-    pub one_head : (f g : OpId) (ts us : Terms) → HasNoIdentity (axioms d f) → HasNoIdentity (axioms d g) → IsNode (app f ts) → IsNode (app g us) → class (app f ts) ≡ class (app g us) → f ≡ g
+    pub one_head : (f g : OpId) (ts us : Terms) → HasNoIdentity (axioms d f) → HasNoIdentity (axioms d g) →
+        IsNode (app f ts) → IsNode (app g us) → class (app f ts) ≡ class (app g us) → f ≡ g
     -- where that operator is free, their arguments are in one class place by place
-    pub free : (f : OpId) (ts us : Terms) → axioms d f ≡ Free → IsNode (app f ts) → IsNode (app f us) → class (app f ts) ≡ class (app f us) → PlaceByPlace class ts us
+    pub free : (f : OpId) (ts us : Terms) → axioms d f ≡ Free → IsNode (app f ts) → IsNode (app f us) →
+        class (app f ts) ≡ class (app f us) → PlaceByPlace class ts us
     -- where it is commutative and not associative, place by place or crosswise
-    pub commutative : (f : OpId) (t u v w : Term) → axioms d f ≡ Comm → IsNode (two f t u) → IsNode (two f v w) → class (two f t u) ≡ class (two f v w) →
+    pub commutative : (f : OpId) (t u v w : Term) → axioms d f ≡ Comm → IsNode (two f t u) →
+        IsNode (two f v w) → class (two f t u) ≡ class (two f v w) →
         ((class t ≡ class v) × (class u ≡ class w)) ⊎ ((class t ≡ class w) × (class u ≡ class v))

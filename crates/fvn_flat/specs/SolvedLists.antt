@@ -164,7 +164,8 @@ module _ (d : Declarations) (problem : Problem) (class : Term → ℕ) where
         pub distinct : AllPairs (λ p q. (p.solution ≢ q.solution) × (p.variable ≢ q.variable)) (plan.parts f)
         pub standing : All (λ p. StandsForClass p ⊎ StandsForNone p) (plan.parts f)
         -- a class with a used column, bound neither to a sum of f nor to f's identity, stands for a part
-        pub covered : (k : ℕ) → IsClass k → IsUsed system k → plan.form k ≢ as_sum f → (IsBoundToIdentity f k → ⊥) → Any (λ p. p.variable ≡ plan.name k) (plan.parts f)
+        pub covered : (k : ℕ) → IsClass k → IsUsed system k → plan.form k ≢ as_sum f →
+            (IsBoundToIdentity f k → ⊥) → Any (λ p. p.variable ≡ plan.name k) (plan.parts f)
 
     -- the name of a class with what it is bound to, or a variable of the problem with the name of its class
     abbrev pub IsBinding : Var × FlatTerm → Type 0
@@ -180,10 +181,12 @@ module _ (d : Declarations) (problem : Problem) (class : Term → ℕ) where
       pub forms : (k : ℕ) → IsClass k → IsFormOf k (plan.form k)
       pub sums : (f : OpId) → Heads d problem f → IsAssociative (axioms d f) → (system : System) × RestsOn f system
       -- a new variable stands for parts of one operator only
-      pub apart : (f g : OpId) (p q : Part) → f ≢ g → Contains (plan.parts f) p → Contains (plan.parts g) q → IsNew p.variable → p.variable ≢ q.variable
+      pub apart : (f g : OpId) (p q : Part) → f ≢ g → Contains (plan.parts f) p → Contains (plan.parts g) q →
+          IsNew p.variable → p.variable ≢ q.variable
       -- the bindings are those of the classes and of the variables that are no names, and no others
       pub classes : (k : ℕ) (t : FlatTerm) → IsClass k → bound_to k ≡ Some t → Contains bindings (plan.name k, t)
-      pub variables : (x : Var) → Contains (variables_of problem) x → plan.name (class (var x)) ≢ x → Contains bindings (x, fvar (plan.name (class (var x))))
+      pub variables : (x : Var) → Contains (variables_of problem) x → plan.name (class (var x)) ≢ x →
+          Contains bindings (x, fvar (plan.name (class (var x))))
       pub no_other : All IsBinding bindings
       -- no class reaches itself
       pub triangular : IsTriangular bindings

@@ -59,7 +59,8 @@ Binds problem s = (x : Var) → Contains (variables_of problem) x ↔ ((t : Flat
 
 -- every variable in a value is fresh and has a number from first up to below next
 abbrev pub IsNumbered : ℕ → ℕ → Problem → Bindings → Type 0
-IsNumbered first next problem s = (x y : Var) → Contains (variables_of problem) x → Occurs y (plain (value s x)) → (y.fresh ≡ true) × (first ≤ y.name) × (y.name < next)
+IsNumbered first next problem s = (x y : Var) → Contains (variables_of problem) x →
+    Occurs y (plain (value s x)) → (y.fresh ≡ true) × (first ≤ y.name) × (y.name < next)
 
 -- what an answer promises, one promise at a time
 module _ (d : Declarations) (given : Pairs) where

@@ -158,7 +158,8 @@ impl Flat {
         requires takes { Takes sig.now op args.items }
         // The flat form, which is equal modulo the axioms to the operator over the plain terms.
         ensures exact { IfOk result (λ t. t ≡ build sig.now op args.items) }
-        ensures equal { IfOk result (λ t. BEqual sig.now (plain_over sig.now op args.items) (plain t)) }
+        ensures equal { IfOk result (λ t.
+            BEqual sig.now (plain_over sig.now op args.items) (plain t)) }
         ensures fits { IfOk result (Fits sig.now) }
     {
         sig.recall_good();

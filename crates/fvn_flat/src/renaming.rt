@@ -107,7 +107,8 @@ pub fn rename_apart(
     requires size { symbols t.now ≤ FIRST_FRESH }
     // Distinct variables go to distinct fresh ones, numbered from `first` up to below the next number.
     ensures renamed { IfOk result (λ r. r.0 ≡ inst sig.now (fresh_names first t.now) t.now) }
-    ensures apart { IfOk result (λ r. RenamesApart (OccursInForm t.now) first r.1 (fresh_names first t.now)) }
+    ensures apart { IfOk result (λ r.
+        RenamesApart (OccursInForm t.now) first r.1 (fresh_names first t.now)) }
     ensures next { IfOk result (λ r. r.1 ≡ first + length (distinct_variables t.now)) }
     ensures fits { IfOk result (λ r. Fits sig.now r.0) }
 {

@@ -110,5 +110,6 @@ pub trait AxiomSolver: Sync {
 
         // Every other end shows why it came.
         ensures cause { IfOk result
-            (HasCause (signature self.now) problem.now (most_unifiers self.now) (most_symbols self.now)) };
+            (HasCause (signature self.now) problem.now (most_unifiers self.now)
+            (most_symbols self.now)) };
 }

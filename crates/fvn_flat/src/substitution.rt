@@ -68,7 +68,8 @@ impl Subst {
 
     /// What the variable is bound to.
     pub fn get(&self, v: Var) -> Option<&Flat>
-        ensures { MatchOption result (bound self.now v ≡ None) (λ t. bound self.now v ≡ Some t.now) }
+        ensures { MatchOption result (bound self.now v ≡ None) (λ t.
+            bound self.now v ≡ Some t.now) }
     {
         for (x, t) in self.pairs.as_slice() {
             if *x == v {
@@ -145,7 +146,8 @@ impl Subst {
         requires once { BindsOnce self.now }
         requires first { SettledValues sig.now (value self.now) }
         requires then { SettledValues sig.now (value later.now) }
-        ensures { IfOk result (λ pairs. pairs.items ≡ changed (inst sig.now (value later.now)) self.now) }
+        ensures { IfOk result (λ pairs.
+            pairs.items ≡ changed (inst sig.now (value later.now)) self.now) }
     {
         let mut pairs = Vec::with_capacity(alloc, self.pairs.len())?;
         for (x, t) in &self.pairs {
@@ -181,7 +183,8 @@ impl Subst {
         later: &Subst,
         pairs: Vec<(Var, Flat)>,
     ) -> Result<Vec<(Var, Flat)>, NoMemory>
-        ensures { IfOk result (λ all. all.items ≡ pairs.items ++ chosen (is_free self.now) later.now) }
+        ensures { IfOk result (λ all.
+            all.items ≡ pairs.items ++ chosen (is_free self.now) later.now) }
     {
         let mut all = pairs;
         for (x, t) in &later.pairs {

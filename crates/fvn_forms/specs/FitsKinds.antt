@@ -29,4 +29,5 @@ module _ (d : Declarations) where
     -- an associative one takes two arguments of the kind that it gives
     pub associative : (f : OpId) (r : Rank) → IsAssociative (axioms d f) → Contains (declared d f).ranks r → TakesTwoOfItsKind r
     -- an identity is a constant of the operator's kind
-    pub identity : (f e : OpId) (r : Rank) → identity_of (axioms d f) ≡ Some e → Contains (declared d f).ranks r → HasKind d (constant e) (kind d r.result)
+    pub identity : (f e : OpId) (r : Rank) → identity_of (axioms d f) ≡ Some e →
+        Contains (declared d f).ranks r → HasKind d (constant e) (kind d r.result)

@@ -33,5 +33,6 @@ LeastSortIsExact = (d : Declarations) → IsGood d → (t : Term) → IsTerm d t
 
 -- a well-kinded form with flat forms for its variables has the least sort that it has over their least sorts, or one below that
 abbrev pub InstancesHaveLowerSorts : Type 0
-InstancesHaveLowerSorts = (d : Declarations) → IsGood d → (env : Var → SortId) → KeepsKindsOfVariables d env → (s : Var → FlatTerm) → IsFlatSubstitution d s →
+InstancesHaveLowerSorts = (d : Declarations) → IsGood d → (env : Var → SortId) → KeepsKindsOfVariables d env →
+    (s : Var → FlatTerm) → IsFlatSubstitution d s →
     (t : FlatTerm) → Settled d t → IsTerm d (plain t) → AtOrBelow d (sort_in d env (inst d s t)) (sort_in d (λ x. sort_in d env (s x)) t)

@@ -23,6 +23,7 @@ enum Place {
     },
 }
 
+// Whether the byte is white space.
 #[tactic(auto, unfolding(crate::specs::Bytes::is_blank))]
 fn is_blank_byte(byte: u8) -> bool
     ensures { result ≡ is_blank byte }
@@ -30,6 +31,7 @@ fn is_blank_byte(byte: u8) -> bool
     matches!(byte, b'\t' | b'\n' | b'\r' | b' ')
 }
 
+// Whether the byte is a token by itself.
 #[tactic(auto, unfolding(crate::specs::Bytes::is_special))]
 fn is_special_byte(byte: u8) -> bool
     ensures { result ≡ is_special byte }
@@ -37,6 +39,7 @@ fn is_special_byte(byte: u8) -> bool
     matches!(byte, b'(' | b')' | b',' | b'[' | b']' | b'{' | b'}')
 }
 
+// Whether the byte is a printed one of ASCII.
 #[tactic(auto, unfolding(crate::specs::Bytes::is_printed))]
 fn is_printed_byte(byte: u8) -> bool
     ensures { result ≡ is_printed byte }
@@ -52,6 +55,7 @@ fn goes_on_byte(quoted: bool, byte: u8) -> bool
     is_printed_byte(byte) && (quoted || !is_special_byte(byte))
 }
 
+// Whether a comment begins here.
 #[tactic(auto, unfolding(crate::specs::Bytes::begins_comment))]
 fn begins_comment_text(text: &[u8]) -> bool
     ensures { result ≡ begins_comment text.now }
@@ -59,6 +63,7 @@ fn begins_comment_text(text: &[u8]) -> bool
     text.starts_with(b"---") || text.starts_with(b"***")
 }
 
+// Whether a block comment begins here.
 #[tactic(auto, unfolding(crate::specs::Bytes::begins_block))]
 fn begins_block_text(text: &[u8]) -> bool
     ensures { result ≡ begins_block text.now }
@@ -120,7 +125,8 @@ fn move_on(
     list: &mut Vec<Token>,
 ) -> Result<Place, LexFault>
     requires { offset + 1 < 2 ^ 64 }
-    ensures ok { IfOk result (LeadsTo (advance place offset byte text.now) list.old.items list.new.items) }
+    ensures ok { IfOk result
+        (LeadsTo (advance place offset byte text.now) list.old.items list.new.items) }
     ensures err { IfErr result (StopsAt (advance place offset byte text.now)) }
 {
     match place {
@@ -175,16 +181,19 @@ pub fn tokens(alloc: Global, bytes: &[u8]) -> Result<Vec<Token>, LexFault>
     ensures ok { IfOk result (λ list. lex bytes.now ≡ Ok list.items) }
 
     // The text of each piece is the slice of its token.
-    ensures pieces { IfOk result (λ list. pieces_of bytes.now ≡ Some (map (piece_at bytes.now) list.items)) }
+    ensures pieces { IfOk result (λ list.
+        pieces_of bytes.now ≡ Some (map (piece_at bytes.now) list.items)) }
     ensures within { IfOk result (λ list. AreWithin bytes.now list.items) }
     ensures ordered { IfOk result (λ list. AreInOrder list.items) }
 
-    ensures err { IfErr result (λ fault. (fault ≡ LexFault.NoMemory) ⊎ (lex bytes.now ≡ Err fault)) }
+    ensures err { IfErr result (λ fault.
+        (fault ≡ LexFault.NoMemory) ⊎ (lex bytes.now ≡ Err fault)) }
 
     // Beside the definition: all bytes are those of white space, comments and these tokens, each as long as it
     // can be, and a fault is the first.
     ensures cut { IfOk result (λ list. IsCutInto bytes.now list.items) }
-    ensures first { IfErr result (λ fault. (fault ≡ LexFault.NoMemory) ⊎ IsFirstFault bytes.now fault) }
+    ensures first { IfErr result (λ fault.
+        (fault ≡ LexFault.NoMemory) ⊎ IsFirstFault bytes.now fault) }
 {
     let mut list = Vec::new(alloc);
     let mut place = Place::Between;

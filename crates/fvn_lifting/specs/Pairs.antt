@@ -75,8 +75,7 @@ module _ (d : Declarations) where
   parted_sum f form x one rest =
       build d f (inst d (value ((x, build d f (fvar one ∷ fvar rest ∷ [])) ∷ [])) form ∷ fvar one ∷ [])
 
-  -- Two new variables stand for a variable of the form: with their sum in its place, the sum of the form and of the
-  -- first of them is reducible.
+  -- With the sum of two new variables in the place of x, the sum of the form and of the first of them is reducible.
   pub record IsParted (equations : Equations) (f : OpId) (form : FlatTerm) (x : Var) : Type 0 where
     pub one : Var
     pub rest : Var
@@ -100,7 +99,7 @@ module _ (d : Declarations) where
     pub alone : IsOneSummand f form
     pub parted : IsParted equations f form variable
 
-  -- two summands are enough
+  -- two summands of an instance of the form are enough
   abbrev pub IsMet : Equations → OpId → FlatTerm → Type 0
   IsMet equations f t = IsMetByTwo f t ⊎ IsMetBySome equations f t
 

@@ -8,7 +8,8 @@ use Rattle.std.proofs.lemmas.Int.{to_z-of_z}
 use Rattle.fvn_base.specs.Order.{IsBefore}
 use Rattle.fvn_lindio.specs.Vectors.{IsAtOrBelow, add}
 use Rattle.fvn_lindio.specs.Systems.{above, below}
-use Rattle.fvn_lindio.specs.inner.Paired.{AnyOf, GrowsBy, IsFrom, IsOrderedOf, IsSum}
+use Rattle.fvn_lindio.specs.inner.Least.{GrowsBy, IsOrderedOf}
+use Rattle.fvn_lindio.specs.inner.Paired.{AnyOf, IsFrom, IsSum}
 use Rattle.fvn_lindio.specs.declared.level.Point.{Point}
 use Rattle.fvn_lindio.proofs.VectorLemmas.{sum-cons, length-add, below_length}
 use Rattle.fvn_lindio.proofs.LevelLemmas.{in_none, pushed_old, pushed_new, pushed_cases}

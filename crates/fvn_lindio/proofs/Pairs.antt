@@ -1,6 +1,5 @@
 -- Where values are at most one from zero and all points on one side are units, the minimal solutions are the points at zero and the sums of two on opposite sides.
 use Rattle.std.proofs.Common.{◌≡◌, ◌≢◌, ◌↔◌, ℕ, ◌<◌, ◌≤◌, ◌⊎◌, ℤ, pos, List, length, get_or, sum, sym, ap, ◌∙◌, subst, inl, inr, arith}
-use Rattle.std.specs.Prelude.{true, false}
 use Rattle.std.specs.List.{All, Contains}
 use Rattle.std.proofs.lemmas.List.Elements.{All-contains, Contains-get_or}
 use Rattle.std.proofs.lemmas.Bool.{cases_lt}
@@ -11,6 +10,7 @@ use Rattle.fvn_lindio.specs.inner.Levels.{CanAdd, Generates}
 use Rattle.fvn_lindio.specs.inner.Least.{IsUniform}
 use Rattle.fvn_lindio.specs.inner.Paired.{AnyOf, ArePaired, IsFrom, IsPlain}
 use Rattle.fvn_lindio.specs.declared.level.Point.{Point}
+use Rattle.fvn_lindio.specs.declared.paired.Sign.TheVariants.{Positive, Negative}
 use Rattle.fvn_lindio.proofs.VectorLemmas.{sum-add, sides-add, below_trans, below_sum, below_same, below_add}
 use Rattle.fvn_lindio.proofs.ValueLemmas.{one_side, zero-both}
 use Rattle.fvn_lindio.proofs.Solving.{Lies-add, minimal_below}
@@ -55,8 +55,8 @@ module _ {columns : ℕ} {before : List (List ℤ)} {row : List ℤ} {gs : List 
     small p m = go paired
       where
         go : ArePaired gs → (above p.value ≤ 1) × (below p.value ≤ 1)
-        go (inl h) = let q = All-contains (IsPlain true) gs p h m in (q.highest, q.lowest)
-        go (inr h) = let q = All-contains (IsPlain false) gs p h m in (q.highest, q.lowest)
+        go (inl h) = let q = All-contains (IsPlain Positive) gs p h m in (q.highest, q.lowest)
+        go (inr h) = let q = All-contains (IsPlain Negative) gs p h m in (q.highest, q.lowest)
 
     -- ---- sums are solutions
 
@@ -118,12 +118,12 @@ module _ {columns : ℕ} {before : List (List ℤ)} {row : List ℤ} {gs : List 
       no_zero z k e l (inl h) =
           let f : above z.value ≡ 0 = ap above e in
           let g : below z.value ≡ 0 = ap below e in
-          let same = first_of x u z m n k ((All-contains (IsPlain true) gs u h n).single a) (rising_apart u z n k a (omega (arith, f))) l in
+          let same = first_of x u z m n k ((All-contains (IsPlain Positive) gs u h n).single a) (rising_apart u z n k a (omega (arith, f))) l in
           falling_apart x z m k b (omega (arith, g)) (sym same)
       no_zero z k e l (inr h) =
           let f : above z.value ≡ 0 = ap above e in
           let g : below z.value ≡ 0 = ap below e in
-          let same = first_of u x z n m k ((All-contains (IsPlain false) gs x h m).single b) (falling_apart x z m k b (omega (arith, g))) (subst (IsAtOrBelow z.parts.items) turned l) in
+          let same = first_of u x z n m k ((All-contains (IsPlain Negative) gs x h m).single b) (falling_apart x z m k b (omega (arith, g))) (subst (IsAtOrBelow z.parts.items) turned l) in
           rising_apart u z n k a (omega (arith, f)) (sym same)
 
       module _ (y t : Point) (k : Contains gs y) (j : Contains gs t) (d : 0 < below y.value) (c : 0 < above t.value) (l : IsAtOrBelow (add y.parts.items t.parts.items) whole) where
@@ -133,13 +133,13 @@ module _ {columns : ℕ} {before : List (List ℤ)} {row : List ℤ} {gs : List 
         same_sum : ArePaired gs → add y.parts.items t.parts.items ≡ whole
         same_sum (inl h) =
             let low : IsAtOrBelow y.parts.items whole = below_trans y.parts.items (add y.parts.items t.parts.items) whole (below_add y.parts.items t.parts.items (sized y t k j)) l in
-            let e = first_of x u y m n k ((All-contains (IsPlain true) gs u h n).single a) (rising_apart u y n k a (omega (arith, one_side y.value, d))) low in
+            let e = first_of x u y m n k ((All-contains (IsPlain Positive) gs u h n).single a) (rising_apart u y n k a (omega (arith, one_side y.value, d))) low in
             let on = generates.points t j in
             let rest = below_cancel x.parts.items t.parts.items u.parts.items (sized x t m j) (sized x u m n) (subst (λ z. IsAtOrBelow (add z t.parts.items) whole) e l) in
             both e (generates.least u n t.parts.items on.lies on.nonzero rest)
         same_sum (inr h) =
             let low : IsAtOrBelow t.parts.items whole = below_trans t.parts.items (add y.parts.items t.parts.items) whole (below_add_right y.parts.items t.parts.items (sized y t k j)) l in
-            let f = first_of u x t n m j ((All-contains (IsPlain false) gs x h m).single b) (falling_apart x t m j b (omega (arith, one_side t.value, c))) (subst (IsAtOrBelow t.parts.items) turned low) in
+            let f = first_of u x t n m j ((All-contains (IsPlain Negative) gs x h m).single b) (falling_apart x t m j b (omega (arith, one_side t.value, c))) (subst (IsAtOrBelow t.parts.items) turned low) in
             let on = generates.points y k in
             let moved = subst (λ z. IsAtOrBelow z (add u.parts.items x.parts.items)) (add_comm y.parts.items u.parts.items (sized y u k n)) (subst (IsAtOrBelow (add y.parts.items u.parts.items)) turned (subst (λ z. IsAtOrBelow (add y.parts.items z) whole) f l)) in
             let rest = below_cancel u.parts.items y.parts.items x.parts.items (sized u y n k) (sized u x n m) moved in

@@ -51,7 +51,8 @@ fn known_points(
 ) -> Result<Vec<Point>, AllocError>
     requires row { All (λ v. IsRow (length v) row.now) (vectors_in known.now) }
     requires narrow { All (All (λ a. a ≤ COMPONENT)) (vectors_in known.now) }
-    ensures { IfOk result (λ points. Values row.now (Contains (vectors_in known.now)) points.items) }
+    ensures { IfOk result (λ points.
+        Values row.now (Contains (vectors_in known.now)) points.items) }
 {
     let mut points = Vec::new(alloc);
     for v in known {

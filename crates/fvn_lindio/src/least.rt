@@ -1,8 +1,8 @@
 //! The least of some vectors, in lexicographic order.
-ghost use Rattle.std.specs.Prelude.{◌≡◌, ◌⊎◌, ◌↔◌, ◌<◌, ℕ, List, IfOk, OnOk, IsTrue, All, AllPairs, Contains, length};
+ghost use Rattle.std.specs.Prelude.{◌≡◌, ◌↔◌, ◌<◌, ℕ, List, IfOk, OnOk, IsTrue, All, AllPairs, Contains, length};
 ghost use Rattle.fvn_base.specs.Order.{IsBefore};
 ghost use Rattle.fvn_lindio.specs.inner.Generators.{vectors_in};
-ghost use Rattle.fvn_lindio.specs.inner.Least.{HasOther, IsLeast, IsPlace, IsUniform, StandsAt};
+ghost use Rattle.fvn_lindio.specs.inner.Least.{GrowsBy, HasOther, IsLeast, IsOrderedOf, IsPlace, IsUniform, StandsAt};
 
 use crate::level::Point;
 use crate::vector::{is_at_or_below, is_before, is_same};
@@ -48,11 +48,10 @@ pub(crate) fn insert(
     list: &mut Vec<SmallVec<u64, 8>>,
     v: SmallVec<u64, 8>,
 ) -> Result<(), AllocError>
-    requires sized { All (λ w. length w ≡ length v.items) (vectors_in list.old.items) }
-    requires ordered { AllPairs IsBefore (vectors_in list.old.items) }
-    ensures ordered { OnOk result (AllPairs IsBefore (vectors_in list.new.items)) }
-    ensures exact { OnOk result ((w : List ℕ) → Contains (vectors_in list.new.items) w
-        ↔ Contains (vectors_in list.old.items) w ⊎ (v.items ≡ w)) }
+    requires ordered { IsOrderedOf (length v.items) (vectors_in list.old.items) }
+    ensures ordered { OnOk result (IsOrderedOf (length v.items) (vectors_in list.new.items)) }
+    ensures exact { OnOk result (GrowsBy (λ w. v.items ≡ w)
+        (vectors_in list.old.items) (vectors_in list.new.items)) }
 {
     let place = place_of(list.as_slice(), v.as_slice());
     if stands_at(list.as_slice(), place, v.as_slice()) {
@@ -69,11 +68,12 @@ fn consider(
     p: &Point,
     list: &mut Vec<SmallVec<u64, 8>>,
 ) -> Result<(), AllocError>
-    requires sized { All (λ w. length w ≡ length p.now.parts.items) (vectors_in list.old.items) }
-    requires ordered { AllPairs IsBefore (vectors_in list.old.items) }
-    ensures ordered { OnOk result (AllPairs IsBefore (vectors_in list.new.items)) }
-    ensures exact { OnOk result ((w : List ℕ) → Contains (vectors_in list.new.items) w
-        ↔ Contains (vectors_in list.old.items) w ⊎ (p.now.parts.items ≡ w) × (HasOther points.now w → ⊥)) }
+    requires ordered { IsOrderedOf (length p.now.parts.items) (vectors_in list.old.items) }
+    ensures ordered { OnOk result
+        (IsOrderedOf (length p.now.parts.items) (vectors_in list.new.items)) }
+    ensures exact { OnOk result
+        (GrowsBy (λ w. (p.now.parts.items ≡ w) × (HasOther points.now w → ⊥))
+        (vectors_in list.old.items) (vectors_in list.new.items)) }
 {
     if has_other_below(points, p.parts.as_slice()) {
         return Ok(());

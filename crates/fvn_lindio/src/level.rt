@@ -23,7 +23,8 @@ pub(crate) struct Level {
 
 /// Whether one of the points is at or below the vector.
 fn has_below(points: &[Point], parts: &[u64]) -> bool
-    ensures { IsTrue result ↔ ((p : Point) × Contains points.now p × IsAtOrBelow p.parts.items parts.now) }
+    ensures { IsTrue result
+        ↔ ((p : Point) × Contains points.now p × IsAtOrBelow p.parts.items parts.now) }
 {
     for p in points {
         if is_at_or_below(p.parts.as_slice(), parts) {

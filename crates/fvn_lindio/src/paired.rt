@@ -6,15 +6,22 @@ ghost use Rattle.std.specs.Prelude.{◌≡◌, ◌↔◌, ◌<◌, ◌≤◌, �
 ghost use Rattle.fvn_base.specs.Order.{IsBefore};
 ghost use Rattle.fvn_lindio.specs.Systems.{above, below};
 ghost use Rattle.fvn_lindio.specs.inner.Generators.{vectors_in};
-ghost use Rattle.fvn_lindio.specs.inner.Least.{IsUniform};
+ghost use Rattle.fvn_lindio.specs.inner.Least.{GrowsBy, IsOrderedOf, IsUniform};
 ghost use Rattle.fvn_lindio.specs.inner.Levels.{CanAdd};
-ghost use Rattle.fvn_lindio.specs.inner.Paired.{AnyOf, ArePaired, GrowsBy, IsFrom, IsOn, IsOrderedOf, IsPlain, IsSum};
+ghost use Rattle.fvn_lindio.specs.inner.Paired.{AnyOf, ArePaired, HasSign, IsFrom, IsPlain, IsSum};
 
 use crate::least::insert;
 use crate::level::Point;
 use crate::vector::sum_of;
 use smallvec::SmallVec;
 use std::alloc::{AllocError, Global};
+
+/// The sign of a value that is not zero.
+#[derive(Clone, Copy)]
+pub(crate) enum Sign {
+    Positive,
+    Negative,
+}
 
 /// Whether one component is 1 and all others are 0.
 fn is_unit(parts: &[u64]) -> bool
@@ -44,46 +51,49 @@ fn is_small(value: i64) -> bool
     value <= 1 && value >= -1
 }
 
-/// Whether the value is above zero, or, of the other side, below.
-fn is_on(rises: bool, value: i64) -> bool
-    ensures { IsTrue result ↔ IsOn rises value }
+/// Whether the value has the sign.
+fn has_sign(value: i64, sign: Sign) -> bool
+    ensures { IsTrue result ↔ HasSign sign value }
 {
-    if rises { value > 0 } else { value < 0 }
+    match sign {
+        Sign::Positive => value > 0,
+        Sign::Negative => value < 0,
+    }
 }
 
-/// Whether the value is at most one from zero, and on this side that of a unit.
-fn is_plain(p: &Point, rises: bool) -> bool
-    ensures { IsTrue result → IsPlain rises p.now }
+/// Whether the value is at most one from zero, and the point is a unit where the value has the sign.
+fn is_plain(p: &Point, sign: Sign) -> bool
+    ensures { IsTrue result → IsPlain sign p.now }
 {
     if !is_small(p.value) {
         return false;
     }
-    if !is_on(rises, p.value) {
+    if !has_sign(p.value, sign) {
         return true;
     }
     is_unit(p.parts.as_slice())
 }
 
 /// Whether all points are so.
-fn are_plain(points: &[Point], rises: bool) -> bool
-    ensures { IsTrue result → All (IsPlain rises) points.now }
+fn are_plain(points: &[Point], sign: Sign) -> bool
+    ensures { IsTrue result → All (IsPlain sign) points.now }
 {
     for p in points {
-        if !is_plain(p, rises) {
+        if !is_plain(p, sign) {
             return false;
         }
     }
     true
 }
 
-/// Whether all points are so on one of the two sides.
+/// Whether all points are so for one of the two signs.
 pub(crate) fn are_paired(points: &[Point]) -> bool
     ensures { IsTrue result → ArePaired points.now }
 {
-    if are_plain(points, true) {
+    if are_plain(points, Sign::Positive) {
         return true;
     }
-    are_plain(points, false)
+    are_plain(points, Sign::Negative)
 }
 
 /// Whether the first is below zero and the second above.
@@ -102,7 +112,8 @@ fn add_sum(
 ) -> Result<(), AllocError>
     requires can_add { CanAdd x.now u.now }
     requires ordered { IsOrderedOf (length x.now.parts.items) (vectors_in list.old.items) }
-    ensures ordered { OnOk result (IsOrderedOf (length x.now.parts.items) (vectors_in list.new.items)) }
+    ensures ordered { OnOk result
+        (IsOrderedOf (length x.now.parts.items) (vectors_in list.new.items)) }
     ensures exact { OnOk result (GrowsBy (IsSum x.now u.now)
         (vectors_in list.old.items) (vectors_in list.new.items)) }
 {
@@ -123,7 +134,8 @@ fn add_sums(
 ) -> Result<(), AllocError>
     requires can_add { All (CanAdd x.now) points.now }
     requires ordered { IsOrderedOf (length x.now.parts.items) (vectors_in list.old.items) }
-    ensures ordered { OnOk result (IsOrderedOf (length x.now.parts.items) (vectors_in list.new.items)) }
+    ensures ordered { OnOk result
+        (IsOrderedOf (length x.now.parts.items) (vectors_in list.new.items)) }
     ensures exact { OnOk result (GrowsBy (AnyOf (IsSum x.now) points.now)
         (vectors_in list.old.items) (vectors_in list.new.items)) }
 {
@@ -142,7 +154,8 @@ fn add_from(
 ) -> Result<(), AllocError>
     requires can_add { All (CanAdd x.now) points.now }
     requires ordered { IsOrderedOf (length x.now.parts.items) (vectors_in list.old.items) }
-    ensures ordered { OnOk result (IsOrderedOf (length x.now.parts.items) (vectors_in list.new.items)) }
+    ensures ordered { OnOk result
+        (IsOrderedOf (length x.now.parts.items) (vectors_in list.new.items)) }
     ensures exact { OnOk result (GrowsBy (IsFrom points.now x.now)
         (vectors_in list.old.items) (vectors_in list.new.items)) }
 {

@@ -23,6 +23,7 @@ use Rattle.fvn_match.specs.inner.Summands.{references}
 use Rattle.fvn_match.specs.inner.Candidates.{Values, IsSolution, Finds}
 use Rattle.fvn_match.specs.inner.Goals.{patterns_of, pieces_of, SumHolds, SumsHold, ChoiceAsked, IsPair, IsFlatOf, SumFits}
 use Rattle.fvn_match.specs.inner.Searching.{IsWhole}
+use Rattle.fvn_match.specs.inner.Refusing.{NeverMakes}
 use Rattle.fvn_match.specs.declared.goals.SumGoal.{SumGoal}
 use Rattle.fvn_match.specs.declared.goals.Sums.{Sums}
 use Rattle.fvn_match.proofs.Tallies.{each_repeated, length_repeated}
@@ -72,6 +73,9 @@ module _ (d : Declarations) (goal : SumGoal) (fit : SumFits d goal) (chosen : Li
         pattern_kind = flat_p.has_kind;
         target_kind = subst (λ u. HasKind d (plain u) (kind d fit.rank.result)) (sym w.0) (whole_of_kind d fits goal.op fit.associative fit.rank fit.listed (repeated (pieces_of goal) chosen) flat pieces has_identity);
       }
+
+      pub refused_made : NeverMakes d b p t → Finds vars (IsSolution d b (ChoiceAsked d goal p k chosen sums)) None
+      refused_made never c s = never c s.candidate s.agrees (s.holds.0 ∙ sym w.0)
 
       -- and what is left
       module _ (patterns : Bor (List (Bor FlatTerm))) (are : patterns.now ≡ drop k goal.patterns.now) (left : Bor (List ℕ)) (left_is : left.now ≡ reduced k goal.left.now chosen) (seen : ℕ) where

@@ -19,6 +19,10 @@ mod SummedFinding
 mod Weights
 mod WholeSteps
 mod OnePiece
+mod HighSums
+mod LowSums
+mod Hopeless
+mod Copies
 mod Rooms
 mod Matchers
 mod TwoLists

@@ -21,7 +21,7 @@ use Rattle.fvn_flat.proofs.Binding.{same_var_is, same_var_itself}
 use Rattle.fvn_flat.specs.Forms.{head_of, args_of}
 use Rattle.fvn_match.specs.inner.Candidates.{Values, IsCandidate, Agrees, IsSolution, pairs_of, Finds}
 use Rattle.fvn_match.specs.inner.Goals.{AllMake, IsPair}
-use Rattle.fvn_match.specs.inner.Pairing.{IsSortedAbove}
+use Rattle.fvn_match.specs.inner.Pairing.{LacksSort}
 use Rattle.fvn_match.specs.inner.Searching.{crossed, IsCrossing}
 use Rattle.fvn_match.proofs.AxiomTests.{free_if, commutative_if}
 use Rattle.fvn_match.proofs.PairSteps.{zip_parted, rest_of, free_head, commutative_head, free_pairs, free_step, crossing, two_patterns, two_targets, commutative_step}
@@ -100,8 +100,8 @@ module _ (d : Declarations) where
       refused_known v e other = λ c s. other (sym (s.agrees x v e) ∙ s.holds.0)
 
 -- a target whose sort is that of no instance
-pub refused_above : (d : Declarations) → IsGood d → (p t : FlatTerm) → IsPair d p t → IsSortedAbove d p t → (b : Bindings) (vars : List Var) (P : Values → Type 0) → Finds vars (IsSolution d b (λ c. (inst d c p ≡ t) × P c)) None
-refused_above d good p t pair high b vars P = λ c s. high (subst (λ u. AtOrBelow d (least_sort d u) (least_sort d p)) s.holds.0 (inst_keeps_sorts d good c s.candidate.flat s.candidate.sorts p pair.pattern (pair.of_kind, pair.pattern_kind)))
+pub refused_unsorted : (d : Declarations) → IsGood d → (p t : FlatTerm) → IsPair d p t → LacksSort d p t → (b : Bindings) (vars : List Var) (P : Values → Type 0) → Finds vars (IsSolution d b (λ c. (inst d c p ≡ t) × P c)) None
+refused_unsorted d good p t pair high b vars P = λ c s. high (subst (λ u. AtOrBelow d (least_sort d u) (least_sort d p)) s.holds.0 (inst_keeps_sorts d good c s.candidate.flat s.candidate.sorts p pair.pattern (pair.of_kind, pair.pattern_kind)))
 
 pub zip_long : {A B : Type 0} (R : A → B → Type 0) (xs : List A) (ys : List B) → AllZip R xs ys → length xs ≡ length ys
 zip_long R [] [] h = refl

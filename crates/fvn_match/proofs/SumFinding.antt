@@ -16,7 +16,8 @@ use Rattle.fvn_match.specs.inner.Summands.{references, IsRun}
 use Rattle.fvn_match.specs.inner.Candidates.{Values, IsCandidate, Agrees, IsSolution, Finds}
 use Rattle.fvn_match.specs.inner.Goals.{patterns_of, pieces_of, SumHolds, SumsHold, ChoiceAsked, SumFits, weight_of}
 use Rattle.fvn_match.specs.inner.Known.{IsOpen, LeavesOpen}
-use Rattle.fvn_match.specs.inner.Searching.{IsGroup, IsRoom, IsShort}
+use Rattle.fvn_match.specs.inner.Searching.{IsGroup, IsRoom}
+use Rattle.fvn_match.specs.inner.Refusing.{IsHopeless}
 use Rattle.fvn_match.specs.declared.goals.SumGoal.{SumGoal}
 use Rattle.fvn_match.specs.declared.goals.Sums.{Sums}
 use Rattle.fvn_match.specs.declared.known.Open.{Open}
@@ -25,7 +26,7 @@ use Rattle.fvn_match.proofs.Tallies.{fits_quotients, numbers_in}
 use Rattle.fvn_match.proofs.Runs.{length_references}
 use Rattle.fvn_match.proofs.SumFitting.{smaller_fits}
 use Rattle.fvn_match.proofs.Finding.{if_found_same, found_first, found_none}
-use Rattle.fvn_match.proofs.SumSteps.{as_many, length_adds_up, adds_up_none, choice_adds_up, choice_fits, choice_is, choice_leaves, choice_length, only_choice}
+use Rattle.fvn_match.proofs.SumSteps.{adds_up_none, choice_adds_up, choice_fits, choice_is, choice_leaves, choice_length, only_choice}
 
 -- a choice that a candidate takes is this one or comes after it
 abbrev pub IsTried : Declarations → Bindings → SumGoal → FlatTerm → ℕ → List ℕ → ℕ → Sums → List ℕ → Type 0
@@ -71,12 +72,9 @@ module _ (d : Declarations) (b : Bindings) (vars : List Var) (goal : SumGoal) (f
     abbrev pub WithSum : Values → Type 0
     WithSum c = SumHolds d goal c × X c
 
-    -- too few pieces
-    pub refused_short : IsShort d goal → Finds vars (IsSolution d b WithSum) None
-    refused_short short c s =
-        let x = as_many d goal.op c s.candidate.flat.settled short.0 (patterns_of goal) in
-        let y = length_adds_up d goal.op c (patterns_of goal) (pieces_of goal) goal.left.now long s.holds.0 in
-        omega (arith, short.1)
+    -- what no candidate makes
+    pub refused_hopeless : IsHopeless d goal → Finds vars (IsSolution d b WithSum) None
+    refused_hopeless never c s = never c s.candidate s.holds.0
 
     -- known patterns that are not there
     pub refused_closed : LeavesOpen d b goal None → Finds vars (IsSolution d b WithSum) None

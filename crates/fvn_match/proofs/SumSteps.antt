@@ -20,7 +20,7 @@ use Rattle.fvn_match.specs.inner.Choices.{quotients, reduced}
 use Rattle.fvn_match.specs.inner.Tallies.{tally, repeated, AreDistinct, AddsUp}
 use Rattle.fvn_match.specs.inner.Candidates.{Values}
 use Rattle.fvn_match.specs.inner.Goals.{SumsHold, Asked}
-use Rattle.fvn_match.specs.declared.goals.Goals.{Goals, Done, Lists', Refs', Pair'}
+use Rattle.fvn_match.specs.declared.goals.Goals.{Goals, Done, Lists', Pairs', Pair'}
 use Rattle.fvn_match.specs.declared.goals.Sums.{Sums}
 use Rattle.fvn_match.proofs.Advancing.{sum-cons}
 use Rattle.fvn_match.proofs.Tallies.{count_repeated, length_repeated, each_repeated, same_length, tally_elsewhere, zeros-tally, tally_none, tally-reduced, fits_quotients, numbers_in, fits_numbers, numbers_make_up}
@@ -31,7 +31,7 @@ asked_more d Done more sums X c same = same
 asked_more d (Lists' ps ts r rest) more sums X c same =
     let k = asked_more d rest more sums X c same in
     (λ h. let j = k.0 h.1 in (j.0, (h.0, j.1)), λ h. (h.1.0, k.1 (h.0, h.1.1)))
-asked_more d (Refs' pairs r rest) more sums X c same =
+asked_more d (Pairs' pairs r rest) more sums X c same =
     let k = asked_more d rest more sums X c same in
     (λ h. let j = k.0 h.1 in (j.0, (h.0, j.1)), λ h. (h.1.0, k.1 (h.0, h.1.1)))
 asked_more d (Pair' p t r rest) more sums X c same =
@@ -98,7 +98,7 @@ module _ (d : Declarations) (f : OpId) (c : Values) where
       let b = count_summands-replicate q k p in
       omega arith
 
-  length_summands-append : (ps us : List FlatTerm) → length (summands_of (ps ++ us)) ≡ length (summands_of ps) + length (summands_of us)
+  pub length_summands-append : (ps us : List FlatTerm) → length (summands_of (ps ++ us)) ≡ length (summands_of ps) + length (summands_of us)
   length_summands-append [] us = omega arith
   length_summands-append (p ∷ ps) us =
       let a = length-append (parts d f (inst d c p)) (summands_of (ps ++ us)) in

@@ -57,7 +57,7 @@ module _ (d : Declarations) (b : Bindings) where
         (subst (λ ts. AllZip (IsPair d) [] (references ts)) (sym u.targets) tt);
   }
 
-  untouched_asks : (a : Apart) → IsUntouched a → (c : Values) → ApartAsks d b a c ↔ Agrees b c
+  pub untouched_asks : (a : Apart) → IsUntouched a → (c : Values) → ApartAsks d b a c ↔ Agrees b c
   untouched_asks a u c =
       subst (λ vs. (Agrees (with_bindings b vs) c × AllMake d (references a.patterns.items) (references a.targets.items) c) ↔ Agrees b c) (sym u.values)
       (subst (λ ps. (Agrees b c × AllMake d (references ps) (references a.targets.items) c) ↔ Agrees b c) (sym u.patterns)
@@ -244,18 +244,18 @@ module _ (ps ts : List (Bor FlatTerm)) (p t : Bor FlatTerm) (some : 1 ≤ length
   target_at : t.now ≡ get_or (references ts) 0 t.now
   target_at = references-get ts 0 t (omega arith) t_is
 
-  pub refs_parted : (R : FlatTerm → FlatTerm → Type 0) → AllZip R (references ps) (references ts) ↔ (R p.now t.now × AllZip R (references (take (length ps - 1) (drop 1 ps))) (references (take (length ts - 1) (drop 1 ts))))
-  refs_parted R =
+  pub pairs_parted : (R : FlatTerm → FlatTerm → Type 0) → AllZip R (references ps) (references ts) ↔ (R p.now t.now × AllZip R (references (take (length ps - 1) (drop 1 ps))) (references (take (length ts - 1) (drop 1 ts))))
+  pairs_parted R =
       subst (λ l. AllZip R (references ps) (references ts) ↔ (R p.now t.now × AllZip R l (references (take (length ts - 1) (drop 1 ts))))) (sym (tail_is ps))
       (subst (λ l. AllZip R (references ps) (references ts) ↔ (R p.now t.now × AllZip R (drop 1 (references ps)) l)) (sym (tail_is ts))
       (zip_parted R (references ps) (references ts) p.now t.now some_first (length_references ts ∙ sym long ∙ sym (length_references ps)) first_at target_at))
 
-  pub refs_weight : weight p.now + 2 + weight_of (references (take (length ps - 1) (drop 1 ps))) ≡ weight_of (references ps)
-  refs_weight = let e = ap weight_of (tail_is ps) in let w = weight_of-first (references ps) p.now some_first first_at in omega arith
+  pub pairs_weight : weight p.now + 2 + weight_of (references (take (length ps - 1) (drop 1 ps))) ≡ weight_of (references ps)
+  pairs_weight = let e = ap weight_of (tail_is ps) in let w = weight_of-first (references ps) p.now some_first first_at in omega arith
 
-  pub found_refs : (d : Declarations) (b : Bindings) (vars : List Var) (X : Values → Type 0) → {E : Type 0} (r : Result (Option Bindings) E) →
+  pub found_pairs : (d : Declarations) (b : Bindings) (vars : List Var) (X : Values → Type 0) → {E : Type 0} (r : Result (Option Bindings) E) →
       IfOk r (Finds vars (IsSolution d b (λ c. (inst d c p.now ≡ t.now) × (AllMake d (references (take (length ps - 1) (drop 1 ps))) (references (take (length ts - 1) (drop 1 ts))) c × X c)))) →
       IfOk r (Finds vars (IsSolution d b (λ c. AllMake d (references ps) (references ts) c × X c)))
-  found_refs d b vars X r f =
+  found_pairs d b vars X r f =
       if_found_same vars d b (λ c. (inst d c p.now ≡ t.now) × (AllMake d (references (take (length ps - 1) (drop 1 ps))) (references (take (length ts - 1) (drop 1 ts))) c × X c)) (λ c. AllMake d (references ps) (references ts) c × X c)
-      (λ c k a. let z = refs_parted (λ q u. inst d c q ≡ u) in (λ h. (z.1 (h.0, h.1.0), h.1.1), λ h. let w = z.0 h.0 in (w.0, (w.1, h.1)))) r f
+      (λ c k a. let z = pairs_parted (λ q u. inst d c q ≡ u) in (λ h. (z.1 (h.0, h.1.0), h.1.1), λ h. let w = z.0 h.0 in (w.0, (w.1, h.1)))) r f

@@ -7,6 +7,7 @@ pub mod Pairing
 pub mod Candidates
 pub mod Goals
 pub mod Known
+pub mod Refusing
 pub mod Searching
 pub mod Heads
 pub mod Apart

@@ -1,11 +1,14 @@
 //! Pairs taken apart as far as there is nothing to choose.
-ghost use Rattle.std.specs.Prelude.{◌≡◌, ◌+◌, true, length, IsTrue, IfOk, OnOk};
+ghost use Rattle.std.specs.Prelude.{◌≡◌, ◌+◌, true, false, length, IsTrue, IfOk, OnOk};
 ghost use Rattle.std.specs.List.{AllZip};
 ghost use Rattle.fvn_terms.specs.Signature.{axioms};
 ghost use Rattle.fvn_terms.specs.declared.declarations.Axioms.TheVariants.{Free};
 ghost use Rattle.fvn_forms.specs.Flat.{fvar};
 ghost use Rattle.fvn_forms.specs.Canon.{inst};
+ghost use Rattle.fvn_flat.specs.Bindings.{value};
+ghost use Rattle.fvn_match.specs.inner.Candidates.{IsCandidate};
 ghost use Rattle.fvn_match.specs.inner.Goals.{AllMake, IsPair, bindings_of, weight, weight_of};
+ghost use Rattle.fvn_match.specs.inner.Refusing.{NeverMakes};
 ghost use Rattle.fvn_match.specs.inner.Apart.{IsUntouched, ApartFits, TakesApart};
 
 use crate::goals::{Binding, Bound, newest};
@@ -61,7 +64,7 @@ impl<'a> Apart<'a> {
         requires pair { IsPair sig.now (fvar x) t.now }
         requires fits { ApartFits sig.now (bindings_of bound.now) self.old }
         ensures { IfOk result (TakesApart sig.now (bindings_of bound.now) self.old self.new
-            (λ c. inst sig.now c (fvar x) ≡ t.now) 3) }
+            (λ c. inst sig.now c (fvar x) ≡ t.now) (weight (fvar x) + 2)) }
     {
         match newest(self.values.as_slice(), x, bound.get(x)) {
             Some(v) => {
@@ -156,4 +159,31 @@ impl<'a> Apart<'a> {
         }
         Ok(true)
     }
+}
+
+// Whether what was bound leaves it open that the pattern makes the target, which is asked where a free operator
+// heads the pattern.
+pub(crate) fn may_make(
+    alloc: Global,
+    sig: &Signature,
+    bound: &Bound<'_>,
+    p: &Flat,
+    t: &Flat,
+) -> Result<bool, NoMemory>
+    requires pair { IsPair sig.now p.now t.now }
+    requires values { IsCandidate sig.now (value (bindings_of bound.now)) }
+    ensures { IfOk result (λ may. may ≡ false →
+        NeverMakes sig.now (bindings_of bound.now) p.now t.now) }
+{
+    let f = match p.head() {
+        None => return Ok(true),
+        Some(f) => f,
+    };
+    let free = is_free(sig, f);
+    if !free {
+        return Ok(true);
+    }
+    let mut parts = untouched(alloc);
+    let may = parts.take(sig, bound, p, t)?;
+    Ok(may)
 }

@@ -2,14 +2,14 @@
 ghost use Rattle.std.specs.Prelude.{◌≡◌, ◌∷◌};
 ghost use Rattle.fvn_terms.specs.Substitution.{same_var};
 ghost use Rattle.fvn_flat.specs.Bindings.{Bindings};
-ghost use Rattle.fvn_match.specs.inner.Goals.{bindings_of, with_bindings, IsValue};
+ghost use Rattle.fvn_match.specs.inner.Goals.{bindings_of, with_bindings, IsBoundTo};
 
 use fvn_flat::Flat;
 use fvn_terms::{OpId, Var};
 
 // Patterns and their targets, place by place.
 #[derive(Clone, Copy)]
-pub(crate) struct RefPairs<'a> {
+pub(crate) struct Pairs<'a> {
     pub(crate) patterns: &'a [&'a Flat],
     pub(crate) targets: &'a [&'a Flat],
 }
@@ -22,7 +22,7 @@ pub(crate) enum Goals<'a> {
     // Patterns and their targets, place by place.
     Lists(&'a [Flat], &'a [Flat], &'a Goals<'a>),
     // The same of references.
-    Refs(RefPairs<'a>, &'a Goals<'a>),
+    Pairs(Pairs<'a>, &'a Goals<'a>),
     // A pattern and its target.
     Pair(&'a Flat, &'a Flat, &'a Goals<'a>),
 }
@@ -66,8 +66,8 @@ fn is_named(pair: &Binding<'_>, v: Var) -> bool
 
 // The value that the pair gives the variable, or else the one from before.
 fn newer<'a>(pair: &Binding<'a>, v: Var, before: Option<&'a Flat>) -> Option<&'a Flat>
-    ensures { (b : Bindings) → IsValue b v before.entry →
-        IsValue ((pair.now.name, pair.now.value.now) ∷ b) v result }
+    ensures { (b : Bindings) → IsBoundTo b v before.entry →
+        IsBoundTo ((pair.now.name, pair.now.value.now) ∷ b) v result }
 {
     let is = is_named(pair, v);
     if is {
@@ -82,7 +82,8 @@ pub(crate) fn newest<'a>(
     v: Var,
     before: Option<&'a Flat>,
 ) -> Option<&'a Flat>
-    ensures { (b : Bindings) → IsValue b v before.entry → IsValue (with_bindings b pairs.now) v result }
+    ensures { (b : Bindings) → IsBoundTo b v before.entry →
+        IsBoundTo (with_bindings b pairs.now) v result }
 {
     let mut found = before;
     for pair in pairs {
@@ -103,7 +104,7 @@ fn has_name(pairs: &[Binding<'_>], v: Var) -> bool {
 
 // Variables with their values, the newest last.
 #[derive(Clone, Copy)]
-pub(crate) struct Values<'a> {
+pub(crate) struct Latest<'a> {
     pub(crate) pairs: &'a [Binding<'a>],
 }
 
@@ -115,7 +116,7 @@ pub(crate) enum Bound<'a> {
     // A variable with its value, and others.
     Bind(Var, &'a Flat, &'a Bound<'a>),
     // Variables with their values, the last of which is the newest, and others.
-    Several(Values<'a>, &'a Bound<'a>),
+    Several(Latest<'a>, &'a Bound<'a>),
 }
 
 impl Bound<'_> {
@@ -152,7 +153,7 @@ impl Bound<'_> {
 
     // What the variable is bound to.
     pub(crate) fn get(&self, v: Var) -> Option<&Flat>
-        ensures { IsValue (bindings_of self.now) v result }
+        ensures { IsBoundTo (bindings_of self.now) v result }
     {
         match self {
             Bound::Nothing => None,

@@ -13,7 +13,7 @@ use fvn_signature::Signature;
 use fvn_terms::OpId;
 
 // Whether the operator has no identity.
-fn has_no_identity(sig: &Signature, f: OpId) -> bool
+pub(crate) fn has_no_identity(sig: &Signature, f: OpId) -> bool
     ensures { IsTrue result → identity (axioms sig.now f) ≡ None }
 {
     match sig.identity(f) {

@@ -9,6 +9,7 @@ mod heads;
 mod known;
 mod matching;
 mod pairing;
+mod refusing;
 mod search;
 mod summands;
 mod variables;

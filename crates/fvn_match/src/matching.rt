@@ -50,7 +50,8 @@ pub fn matches_both(
     ensures some { IfFound result (Matches sig.now (joined pattern.entry) (joined target.entry)) }
     ensures binds { IfFound result (BindsJust (joined pattern.entry)) }
     ensures fits { IfFound result (BindingsFit sig.now) }
-    ensures none { IfNothing result (HasNoMatcher sig.now (joined pattern.entry) (joined target.entry)) }
+    ensures none { IfNothing result
+        (HasNoMatcher sig.now (joined pattern.entry) (joined target.entry)) }
 {
     sig.recall_good();
     if !all_have_one_kind(sig, pattern.0, target.0) {

@@ -6,7 +6,7 @@ ghost use Rattle.fvn_forms.specs.Flat.{fvar};
 ghost use Rattle.fvn_forms.specs.LeastSort.{least_sort};
 ghost use Rattle.fvn_flat.specs.Fits.{Fits, AllFit};
 ghost use Rattle.fvn_match.specs.inner.Goals.{IsPair};
-ghost use Rattle.fvn_match.specs.inner.Pairing.{HaveOneKind, IsSortedAbove};
+ghost use Rattle.fvn_match.specs.inner.Pairing.{HaveOneKind, LacksSort};
 
 use fvn_flat::Flat;
 use fvn_signature::Signature;
@@ -54,9 +54,9 @@ pub(crate) fn has_sort_of(sig: &Signature, x: Var, t: &Flat) -> bool
 const MANY: usize = 6;
 
 // Whether the target's sort is none of an instance of the pattern, which is asked where the pattern is a sum of many.
-pub(crate) fn is_sorted_above(sig: &Signature, p: &Flat, t: &Flat) -> bool
+pub(crate) fn lacks_sort(sig: &Signature, p: &Flat, t: &Flat) -> bool
     requires { IsPair sig.now p.now t.now }
-    ensures { IsTrue result → IsSortedAbove sig.now p.now t.now }
+    ensures { IsTrue result → LacksSort sig.now p.now t.now }
 {
     if p.args().len() < MANY {
         return false;

@@ -23,13 +23,14 @@ ghost use Rattle.fvn_match.specs.inner.Searching.{
 };
 
 use crate::answers::answer;
-use crate::apart::untouched;
+use crate::apart::{may_make, untouched};
 use crate::choices::{advanced, quotients, reduced, zeros};
-use crate::goals::{Bound, Goals, RefPairs, SumGoal, Sums, Values};
+use crate::goals::{Bound, Goals, Latest, Pairs, SumGoal, Sums};
 use crate::known::{has_known, without_known};
-use crate::pairing::{has_sort_of, is_sorted_above};
+use crate::pairing::{has_sort_of, lacks_sort};
+use crate::refusing::is_hopeless;
 use crate::summands::{after, alike, count_pieces, is_headed, reversed, summands};
-use crate::wholes::{are_zero, is_short, room, whole};
+use crate::wholes::{are_zero, room, whole};
 use fvn_flat::{Flat, Subst};
 use fvn_signature::Signature;
 use fvn_terms::{NoMemory, OpId, Var};
@@ -59,8 +60,8 @@ impl Search<'_> {
         match goals {
             Goals::Pair(p, t, rest) => self.pair(&**p, &**t, &**rest, &*sums, &*bound),
             Goals::Lists(ps, ts, rest) => self.lists(*ps, *ts, &**rest, &*sums, &*bound),
-            Goals::Refs(pairs, rest) => {
-                self.refs(pairs.patterns, pairs.targets, &**rest, &*sums, &*bound)
+            Goals::Pairs(pairs, rest) => {
+                self.one_by_one(pairs.patterns, pairs.targets, &**rest, &*sums, &*bound)
             }
             Goals::Done => match sums {
                 Sums::WithSum(goal, rest) => self.sum(&*goal, &**rest, &*bound),
@@ -95,16 +96,16 @@ impl Search<'_> {
         }
         let patterns = parts.patterns.as_slice();
         let targets = parts.targets.as_slice();
-        let values = Values {
+        let values = Latest {
             pairs: parts.values.as_slice(),
         };
         let more = Bound::Several(values, &*bound);
-        self.refs(patterns, targets, &*rest, &*sums, &more)
+        self.one_by_one(patterns, targets, &*rest, &*sums, &more)
     }
 
     // The same of references, pair by pair.
     #[cycle(search)]
-    fn refs<'x>(
+    fn one_by_one<'x>(
         &self,
         ps: &'x [&'x Flat],
         ts: &'x [&'x Flat],
@@ -116,17 +117,17 @@ impl Search<'_> {
         requires lengths { length ps.now ≡ length ts.now }
         requires pairs { AllZip (IsPair self.now.sig.now) (references ps.now) (references ts.now) }
         requires state { StateFits self.now.sig.now rest.now sums.now bound.now }
-        ensures { IfOk result (SearchesLists self.now (references ps.now) (references ts.now) rest.now
-            sums.now bound.now) }
+        ensures { IfOk result (SearchesLists self.now (references ps.now) (references ts.now)
+            rest.now sums.now bound.now) }
     {
         if ps.is_empty() {
             return self.solve(&*rest, &*sums, &*bound);
         }
-        let others = RefPairs {
+        let others = Pairs {
             patterns: &ps[1..],
             targets: &ts[1..],
         };
-        let later = Goals::Refs(others, &*rest);
+        let later = Goals::Pairs(others, &*rest);
         self.pair(ps[0], ts[0], &later, &*sums, &*bound)
     }
 
@@ -247,7 +248,7 @@ impl Search<'_> {
         ensures { IfOk result (SearchesPair self.now p.now t.now rest.now sums.now bound.now) }
     {
         self.sig.recall_good();
-        if is_sorted_above(self.sig, p, t) {
+        if lacks_sort(self.sig, p, t) {
             return Ok(None);
         }
         let patterns = reversed(self.alloc, p.args())?;
@@ -275,7 +276,7 @@ impl Search<'_> {
         requires state { SumStateFits self.now.sig.now goal.now sums.now bound.now }
         ensures { IfOk result (SearchesSum self.now goal.now sums.now bound.now) }
     {
-        if is_short(self.sig, goal) {
+        if is_hopeless(self.sig, goal) {
             return Ok(None);
         }
         let seen = bound.count();
@@ -348,7 +349,8 @@ impl Search<'_> {
         requires group { IsGroup self.now.sig.now goal.now p.now k }
         requires within { k ≤ length goal.now.patterns.now }
         requires limits { limits.now ≡ quotients k goal.now.left.now }
-        ensures { IfOk result (SearchesChoices self.now goal.now p.now k limits.now room sums.now bound.now) }
+        ensures { IfOk result (SearchesChoices self.now goal.now p.now k limits.now room
+            sums.now bound.now) }
     {
         let mut chosen = zeros(self.alloc, limits.len())?;
         loop {
@@ -380,13 +382,18 @@ impl Search<'_> {
         requires within { k ≤ length goal.now.patterns.now }
         requires long { length chosen.now ≡ length goal.now.left.now }
         requires choice { AllZip (λ j n. k * j ≤ n) chosen.now goal.now.left.now }
-        ensures { IfOk result (SearchesChoice self.now goal.now p.now k chosen.now sums.now bound.now) }
+        ensures { IfOk result (SearchesChoice self.now goal.now p.now k chosen.now
+            sums.now bound.now) }
     {
         self.sig.recall_good();
         let whole = match whole(self.alloc, self.sig, goal, chosen)? {
             None => return Ok(None),
             Some(t) => t,
         };
+        let may = may_make(self.alloc, self.sig, &*bound, &*p, &whole)?;
+        if !may {
+            return Ok(None);
+        }
         let left = reduced(self.alloc, k, goal.left, chosen)?;
         let others = after(goal.patterns, k);
         let smaller = SumGoal {

@@ -121,7 +121,8 @@ fn is_left(piece: &Flat, n: usize, u: &Flat) -> bool
 // Takes one piece away, if one is left.
 fn take_one(u: &Flat, pieces: &[&Flat], left: &mut Vec<usize>) -> bool
     requires { length left.old.items ≡ length pieces.now }
-    ensures { IsTakenAway (references pieces.now) left.old.items left.new.items (u.now ∷ []) result }
+    ensures { IsTakenAway (references pieces.now) left.old.items left.new.items
+        (u.now ∷ []) result }
 {
     for i in 0..pieces.len() {
         if is_left(pieces[i], left[i], u) {

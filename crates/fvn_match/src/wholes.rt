@@ -1,17 +1,19 @@
 //! Sums of chosen pieces, and how many pieces a pattern may have.
 ghost use Rattle.std.specs.Prelude.{◌≡◌, ◌↔◌, ◌++◌, ◌≤◌, length, replicate, sum, IsTrue, IfOk};
+ghost use Rattle.fvn_terms.specs.Signature.{AtOrBelow};
 ghost use Rattle.fvn_flat.specs.Fits.{Fits};
 ghost use Rattle.fvn_match.specs.inner.Tallies.{repeated};
 ghost use Rattle.fvn_match.specs.inner.Summands.{references};
 ghost use Rattle.fvn_match.specs.inner.Goals.{SumFits};
 ghost use Rattle.fvn_match.specs.inner.Searching.{IsGroup, IsOnePiece, IsRoom, IsEmptySum, IsWhole, IsShort};
+ghost use Rattle.fvn_match.specs.inner.Refusing.{IsSummand, GivesNone, TakesLow, KeepsLow};
 
 use crate::choices::total;
 use crate::goals::SumGoal;
 use crate::summands::is_headed;
 use fvn_flat::Flat;
 use fvn_signature::Signature;
-use fvn_terms::{NoMemory, OpId};
+use fvn_terms::{NoMemory, OpId, Rank, SortId};
 use std::alloc::Global;
 
 // Whether all numbers are zero.
@@ -103,7 +105,7 @@ pub(crate) fn is_short(sig: &Signature, goal: &SumGoal<'_>) -> bool
     }
 }
 
-// Whether no instance of the pattern has more than one summand.
+// Whether no instance of the pattern, which is no variable, has more than one summand.
 fn is_one_piece(sig: &Signature, f: OpId, p: &Flat) -> bool
     requires { Fits sig.now p.now }
     ensures { IsTrue result → IsOnePiece sig.now f p.now }
@@ -123,6 +125,81 @@ fn is_one_piece(sig: &Signature, f: OpId, p: &Flat) -> bool
     !is_headed(p, f)
 }
 
+// Whether what a rank gives has the sort.
+fn gives(sig: &Signature, rank: &Rank, s: SortId) -> bool
+    ensures { IsTrue result ↔ AtOrBelow sig.now rank.now.result s }
+{
+    sig.leq(rank.result, s)
+}
+
+// Whether no sum of the operator has the sort.
+fn gives_none(sig: &Signature, f: OpId, s: SortId) -> bool
+    ensures { IsTrue result → GivesNone sig.now f s }
+{
+    if sig.kind(s) == s {
+        return false;
+    }
+    for i in 0..sig.rank_count(f) {
+        let one = sig.rank(f, i);
+        let may = gives(sig, one, s);
+        if may {
+            return false;
+        }
+    }
+    true
+}
+
+// Whether the rank takes an argument of the sort.
+fn takes_low(sig: &Signature, rank: &Rank, s: SortId) -> bool
+    ensures { IsTrue result → TakesLow sig.now s rank.now }
+{
+    let args = rank.args.as_slice();
+    for i in 0..args.len() {
+        let low = sig.leq(args[i], s);
+        if low {
+            return true;
+        }
+    }
+    false
+}
+
+// Whether the rank takes an argument of the sort, where it gives the sort.
+fn rank_keeps_low(sig: &Signature, rank: &Rank, s: SortId) -> bool
+    ensures { IsTrue result → AtOrBelow sig.now rank.now.result s → TakesLow sig.now s rank.now }
+{
+    let may = gives(sig, rank, s);
+    if !may {
+        return true;
+    }
+    takes_low(sig, rank, s)
+}
+
+// Whether each sum of the operator that has the sort has a summand of the sort.
+pub(crate) fn keeps_low(sig: &Signature, f: OpId, s: SortId) -> bool
+    ensures { IsTrue result → KeepsLow sig.now f s }
+{
+    for i in 0..sig.rank_count(f) {
+        let one = sig.rank(f, i);
+        let keeps = rank_keeps_low(sig, one, s);
+        if !keeps {
+            return false;
+        }
+    }
+    true
+}
+
+// Whether no instance of a pattern of a sum has more than one summand.
+pub(crate) fn is_single(sig: &Signature, f: OpId, p: &Flat) -> bool
+    requires { IsSummand sig.now f p.now }
+    ensures { IsTrue result → IsOnePiece sig.now f p.now }
+{
+    sig.recall_good();
+    match p.as_var() {
+        Some(x) => gives_none(sig, f, x.sort),
+        None => is_one_piece(sig, f, p),
+    }
+}
+
 // How many of the pieces the first pattern may have at most.
 pub(crate) fn room(sig: &Signature, goal: &SumGoal<'_>, p: &Flat, k: usize) -> usize
     requires fits { SumFits sig.now goal.now }
@@ -131,7 +208,7 @@ pub(crate) fn room(sig: &Signature, goal: &SumGoal<'_>, p: &Flat, k: usize) -> u
     requires within { k ≤ length goal.now.patterns.now }
     ensures { IsRoom sig.now goal.now p.now result }
 {
-    if is_one_piece(sig, goal.op, p) {
+    if is_single(sig, goal.op, p) {
         return 1;
     }
     let all = total(goal.left);

@@ -17,6 +17,7 @@ fn occurs(t: &Plain, x: Var) -> bool
     }
 }
 
+// Whether the variable occurs in one of the terms.
 #[cycle(occurs)]
 fn occurs_among(us: &Args, x: Var) -> bool
     ensures { IsTrue result ↔ OccursAmong x us.now }
@@ -40,6 +41,7 @@ pub fn brings_none(right: &Plain, left: &Plain) -> bool
     }
 }
 
+// Whether all variables of all the terms occur in the left side.
 #[cycle(brings)]
 fn all_bring_none(us: &Args, left: &Plain) -> bool
     ensures { IsTrue result ↔ AllOfAllOccur (term left.now) us.now }

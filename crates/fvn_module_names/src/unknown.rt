@@ -113,7 +113,8 @@ fn has_unknown(
     attributes: &[Attribute<'_>],
 ) -> bool
     ensures { result ≡
-        has_unknown v.now.sorts v.now.ops v.now.kinds earlier.now names.now rank.now attributes.now }
+        has_unknown v.now.sorts v.now.ops v.now.kinds earlier.now names.now rank.now
+        attributes.now }
 {
     has_unknown_sort(v, rank)
         || any_unknown_identity(v, attributes)

@@ -109,6 +109,7 @@ fn begins_further(word: &[u8]) -> bool
         || is_text(word, b"metadata")
 }
 
+// Whether an attribute begins with the word: one that is read here, or a further one of Maude.
 fn begins_attribute(word: &[u8]) -> bool
     ensures { result ≡ (begins_own word.now || begins_further word.now) }
 {
@@ -227,18 +228,21 @@ impl<'a> Reader<'a, Attribute<'a>> for AnyAttribute {
     }
 }
 
+// Whether the attribute is `assoc`.
 fn is_assoc(attribute: &Attribute<'_>) -> bool
     ensures { result ≡ is_assoc attribute.now }
 {
     matches!(attribute, Attribute::Assoc)
 }
 
+// Whether the attribute is `comm`.
 fn is_comm(attribute: &Attribute<'_>) -> bool
     ensures { result ≡ is_comm attribute.now }
 {
     matches!(attribute, Attribute::Comm)
 }
 
+// Whether the attribute is `ditto`.
 fn is_ditto(attribute: &Attribute<'_>) -> bool
     ensures { result ≡ is_ditto attribute.now }
 {
@@ -271,6 +275,7 @@ fn left_out(assoc: bool, comm: bool, ditto: bool, attribute: &Attribute<'_>) -> 
     }
 }
 
+// The first left-out form among the attributes, by what stands beside them.
 fn first_left_out(
     assoc: bool,
     comm: bool,
@@ -287,6 +292,7 @@ fn first_left_out(
     None
 }
 
+// Whether an identity begins here.
 fn begins_identity(row: &[Piece<'_>]) -> bool
     ensures { result ≡ begins_identity row.now }
 {
@@ -296,6 +302,7 @@ fn begins_identity(row: &[Piece<'_>]) -> bool
     }
 }
 
+// The left-out form that the word and what follows it are.
 fn left_out_at_word(word: &[u8], row: &[Piece<'_>]) -> Option<Feature>
     ensures { result ≡ left_out_at_word word.now row.now }
 {
@@ -325,36 +332,42 @@ fn left_out_at(row: &[Piece<'_>]) -> Option<Feature>
     }
 }
 
+// Whether one of the attributes is `assoc`.
 fn any_assoc(attributes: &[Attribute<'_>]) -> bool
     ensures { result ≡ list_any is_assoc attributes.now }
 {
     attributes.iter().any(|attribute| is_assoc(attribute))
 }
 
+// Whether `assoc` is one of the attributes, or stands in the tokens.
 fn has_assoc(attributes: &[Attribute<'_>], row: &[Piece<'_>]) -> bool
     ensures { result ≡ (list_any is_assoc attributes.now || stands (codes "assoc") row.now) }
 {
     any_assoc(attributes) || stands(b"assoc", row)
 }
 
+// Whether one of the attributes is `comm`.
 fn any_comm(attributes: &[Attribute<'_>]) -> bool
     ensures { result ≡ list_any is_comm attributes.now }
 {
     attributes.iter().any(|attribute| is_comm(attribute))
 }
 
+// Whether `comm` is one of the attributes, or stands in the tokens.
 fn has_comm(attributes: &[Attribute<'_>], row: &[Piece<'_>]) -> bool
     ensures { result ≡ (list_any is_comm attributes.now || stands (codes "comm") row.now) }
 {
     any_comm(attributes) || stands(b"comm", row)
 }
 
+// Whether one of the attributes is `ditto`.
 fn any_ditto(attributes: &[Attribute<'_>]) -> bool
     ensures { result ≡ list_any is_ditto attributes.now }
 {
     attributes.iter().any(|attribute| is_ditto(attribute))
 }
 
+// Whether `ditto` is one of the attributes, or stands in the tokens.
 fn has_ditto(attributes: &[Attribute<'_>], row: &[Piece<'_>]) -> bool
     ensures { result ≡ (list_any is_ditto attributes.now || stands (codes "ditto") row.now) }
 {

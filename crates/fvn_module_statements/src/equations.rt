@@ -78,12 +78,14 @@ impl<'a> Reader<'a, Mark<'a>> for AnyMark {
     }
 }
 
+// Whether the attribute is `variant`.
 fn is_variant(mark: &Mark<'_>) -> bool
     ensures { result ≡ is_variant mark.now }
 {
     matches!(mark, Mark::Variant)
 }
 
+// Whether one of the attributes is `variant`.
 fn any_variant(marks: &[Mark<'_>]) -> bool
     ensures { result ≡ list_any is_variant marks.now }
 {
@@ -158,6 +160,7 @@ fn read_label<'a>(row: &'a [Piece<'a>]) -> Option<(Option<Text<'a>>, Row<'a>)>
     }
 }
 
+// What follows an `=`, if the row begins with one.
 fn behind_equals<'a>(row: &'a [Piece<'a>]) -> Option<Row<'a>>
     ensures { result ≡ behind_equals row.now }
 {

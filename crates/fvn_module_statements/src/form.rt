@@ -100,6 +100,7 @@ fn read_frame<'a>(row: &'a [Piece<'a>]) -> Option<(Text<'a>, Row<'a>)>
     }
 }
 
+// Whether the token is a dot that ends a statement.
 fn is_stop(piece: &Piece<'_>) -> bool
     ensures { result ≡ is_stop piece.now }
 {
@@ -144,6 +145,7 @@ fn read_body<'a>(alloc: Global, row: &'a [Piece<'a>]) -> Result<Seq<Statement<'a
     Ok(Seq::from_vec(list))
 }
 
+// The form of the tokens, or the first fault of its frame or its statements.
 fn form_of<'a>(alloc: Global, row: &'a [Piece<'a>]) -> Result<Form<'a>, FormFault>
     ensures ok { IfOk result (λ form. form_of row.now ≡ Ok form) }
     ensures err { IfErr result (λ fault. (fault ≡ OutOfMemory) ⊎ (form_of row.now ≡ Err fault)) }

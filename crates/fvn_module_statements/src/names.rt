@@ -12,6 +12,7 @@ use fvn_syntax::{Piece, RawSort, Row, Text};
 use fvn_terms::NoMemory;
 use std::alloc::Global;
 
+// Whether the word has a colon.
 fn has_colon(text: &[u8]) -> bool
     ensures { result ≡ has_colon text.now }
 {
@@ -201,12 +202,14 @@ pub fn split_colon<'a>(row: &'a [Piece<'a>]) -> Option<(Row<'a>, Row<'a>)>
     None
 }
 
+// Whether the word begins with an underscore.
 fn begins_with_underscore(text: &[u8]) -> bool
     ensures { result ≡ begins_with_underscore text.now }
 {
     !text.is_empty() && text[0] == b'_'
 }
 
+// Whether the word ends with an underscore.
 fn ends_with_underscore(text: &[u8]) -> bool
     ensures { result ≡ ends_with_underscore text.now }
 {
@@ -302,7 +305,8 @@ impl<'a> Reader<'a, OperatorName<'a>> for AnyName {
 
 // A name in parentheses, of which the first is read.
 fn read_round<'a>(row: &'a [Piece<'a>]) -> Option<(OperatorName<'a>, Row<'a>)>
-    ensures { MatchOption (before_close 0 row.now) (result ≡ None) (λ r. result ≡ round_name r.0 r.1) }
+    ensures { MatchOption (before_close 0 row.now) (result ≡ None) (λ r.
+        result ≡ round_name r.0 r.1) }
 {
     let Some((inside, rest)) = before_close(row) else {
         return None;

@@ -30,6 +30,7 @@ pub enum Keyword {
     Equation,
 }
 
+// The statement that begins with the word, if one does.
 fn keyword_of(word: &[u8]) -> Option<Keyword>
     ensures { result ≡ keyword_of word.now }
 {

@@ -17,7 +17,7 @@ use Rattle.fvn_exploring.specs.declared.ends.ExpandEnd.TheVariants.{Whole}
 use Rattle.fvn_exploring.specs.declared.ends.Expansion.{Expansion}
 use Rattle.fvn_narrow.specs.Settings.{narrowing_setting}
 use Rattle.fvn_narrow.specs.inner.Joining.{AreJoined}
-use Rattle.fvn_narrow.specs.inner.Turns.{Turn, Try, try_of, IsStepChild, IsOfStep, EndsAs, TryLifts, TryLiftsUnless, TryLiftsByParts, TurnLifts, ForEach, AreFound, IsTryOf, IsThrough, IsAmongFirst}
+use Rattle.fvn_narrow.specs.inner.Turns.{Turn, Try, try_of, IsStepChild, IsOfStep, EndsAs, TryLifts, TryLiftsAmong, TryLiftsByParts, TurnLifts, ForEach, AreFound, IsTryOf, IsThrough, IsAmongFirst}
 
 -- some of a list is some of a longer one
 any_left : {A : Type 0} {P : A → Type 0} (xs ys : List A) → Any P xs → Any P (xs ++ ys)
@@ -110,8 +110,8 @@ module _ (r : Rewriting) (unifiers : ℕ) (v : Variant) where
     right = λ before more try h s c keeps meet. any_right before more (h s c keeps meet);
   }
 
-  pub unless_grows : (passes : Bool) → Grows (TryLiftsUnless r unifiers v passes)
-  unless_grows passes = record {
+  pub among_grows : (passes : Bool) (rules : List Rule) → Grows (TryLiftsAmong r unifiers v passes rules)
+  among_grows passes rules = record {
     left = λ before more try h. elim h [ inl k ↦ inl (try_grows.left before more try k) | inr m ↦ inr m ];
     right = λ before more try h. elim h [ inl k ↦ inl (try_grows.right before more try k) | inr m ↦ inr m ];
   }

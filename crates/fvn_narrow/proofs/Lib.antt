@@ -17,4 +17,5 @@ mod Keeping
 mod Parted
 mod Divided
 mod Two
+mod Served
 mod Whole

@@ -29,7 +29,7 @@ use Rattle.fvn_rewrite_rules.specs.Given.{headed}
 use Rattle.fvn_rewrite.specs.Usable.{Rewriting, equations_by}
 use Rattle.fvn_lifting.specs.Pairs.{parted_sum, IsParted, IsMetBySome, IsMetInPairs}
 use Rattle.fvn_lifting.proofs.Parting.{two_fit, joined_kinded, two_kinded}
-use Rattle.fvn_narrow.specs.inner.Pairing.{AddsUp, IsBeside, HasInner}
+use Rattle.fvn_narrow.specs.inner.Pairing.{HasSumOf, IsOneBeside, HasInner}
 
 takes_as : (d : Declarations) (a : Axioms) → IsAssociative a → (r : Rank) (ts : List FlatTerm) → 2 ≤ length ts → AllOfKind d (kind d r.result) ts → TakesAsDeclared d a r ts
 takes_as d Free i r ts two h = absurd i
@@ -46,7 +46,7 @@ pub one_pair : (s r : Bindings) (x : Var) (t : FlatTerm) → s ≡ [] → r ≡ 
 one_pair s r x t e h = h ∙ ap (λ m. m ++ (x, t) ∷ []) e
 
 -- a sum that fits adds up a variable and a form
-pub adds_up : (d : Declarations) → IsGood d → (f : OpId) → IsAssociative (axioms d f) → identity (axioms d f) ≡ None → (t : FlatTerm) (x : Var) (form : FlatTerm) → Fits d t → head_of t ≡ Some f → args_of t ≡ fvar x ∷ form ∷ [] → AddsUp d f x form
+pub adds_up : (d : Declarations) → IsGood d → (f : OpId) → IsAssociative (axioms d f) → identity (axioms d f) ≡ None → (t : FlatTerm) (x : Var) (form : FlatTerm) → Fits d t → head_of t ≡ Some f → args_of t ≡ fvar x ∷ form ∷ [] → HasSumOf d f x form
 adds_up d good f assoc no_identity t x form fits heads are_two =
     let joined = joined_kinded d good f assoc no_identity t (fvar x) form fits heads are_two in
     let kinded = two_kinded d good f assoc no_identity t (fvar x) form fits heads are_two in
@@ -74,7 +74,7 @@ module _ (d : Declarations) (x : Var) (both : FlatTerm) (fits : Fits d both) (of
     kinds z i true e = subst (λ (w : Var). HasKind d (plain both) (kind d w.sort)) (same_var_is x z e) of_kind
     kinds z i false e = (i, refl)
 
-module _ (d : Declarations) (good : IsGood d) (f : OpId) (x : Var) (form : FlatTerm) (sum : AddsUp d f x form) where
+module _ (d : Declarations) (good : IsGood d) (f : OpId) (x : Var) (form : FlatTerm) (sum : HasSumOf d f x form) where
   abbrev k : SortId
   k = kind d sum.rank.result
 
@@ -141,19 +141,19 @@ parted_by d e equations f x form one rest target is_one is_rest one_new rest_new
   reducible = subst (λ w. IsReducible d equations (plain w)) (is ∙ ap (λ (c : Declarations). parted_sum c f form x one rest) same) reducible;
 }
 
-as_variable : (t : FlatTerm) (x : Var) → variable_of t ≡ Some x → t ≡ fvar x
+pub as_variable : (t : FlatTerm) (x : Var) → variable_of t ≡ Some x → t ≡ fvar x
 as_variable (fvar y) x e = cc
 as_variable (fapp g joined ts) x e = cc
 
 -- a sum of a variable and of what stands beside it
-module _ (d e : Declarations) (good : IsGood d) (f : OpId) (t first form : FlatTerm) (x : Var) (fits : Fits d t) (heads : head_of t ≡ Some f) (same : e ≡ d) (two : args_of t ≡ first ∷ form ∷ []) (is : variable_of first ≡ Some x) (b : IsBeside e f x form) where
-  beside : IsBeside d f x form
-  beside = subst (λ (c : Declarations). IsBeside c f x form) same b
+module _ (d e : Declarations) (good : IsGood d) (f : OpId) (t first form : FlatTerm) (x : Var) (fits : Fits d t) (heads : head_of t ≡ Some f) (same : e ≡ d) (two : args_of t ≡ first ∷ form ∷ []) (is : variable_of first ≡ Some x) (b : IsOneBeside e f x form) where
+  beside : IsOneBeside d f x form
+  beside = subst (λ (c : Declarations). IsOneBeside c f x form) same b
 
   are_two : args_of t ≡ fvar x ∷ form ∷ []
   are_two = two ∙ ap (λ w. w ∷ form ∷ []) (as_variable first x is)
 
-  pub beside_adds_up : AddsUp d f x form
+  pub beside_adds_up : HasSumOf d f x form
   beside_adds_up = adds_up d good f beside.associative beside.no_identity t x form fits heads are_two
 
   pub met_by_some : (equations : Equations) → IsParted d equations f form x → IsMetBySome d equations f t

@@ -22,7 +22,7 @@ use Rattle.fvn_lifting.specs.Pairs.{IsPairOf}
 use Rattle.fvn_lifting.proofs.Parts.{part_settled, taken_fit, taken_takes}
 use Rattle.fvn_lifting.proofs.PairForms.{joined_form, divided_length}
 use Rattle.fvn_lifting.proofs.PairSteps.{pair_part}
-use Rattle.fvn_narrow.specs.inner.Pairing.{IsSum, AreOthers}
+use Rattle.fvn_narrow.specs.inner.Pairing.{IsFitSum, AreOthers}
 use Rattle.fvn_narrow.specs.inner.Turns.{Try, turn_of, IsTurnAt, IsSumAt, IsPairAt, IsTryAt, IsTryOf, IsTryFrom, IsTryBefore, TryLifts, TryLiftsUnless, ForEach}
 use Rattle.fvn_narrow.proofs.Children.{item_listed, fits_at}
 use Rattle.fvn_narrow.proofs.Fit.{path_fits}
@@ -30,13 +30,13 @@ use Rattle.fvn_narrow.proofs.Joined.{less_or_equal}
 use Rattle.fvn_narrow.proofs.Divided.{divided_at, places_of_two}
 
 -- a sum is the joined one of its arguments
-pub sum_is : (d : Declarations) (f : OpId) (t : FlatTerm) → IsSum d f t → (i : ℕ) (u : FlatTerm) → slice_get (args_of t) i ≡ Some u → t ≡ fapp f true (fpack (args_of t))
+pub sum_is : (d : Declarations) (f : OpId) (t : FlatTerm) → IsFitSum d f t → (i : ℕ) (u : FlatTerm) → slice_get (args_of t) i ≡ Some u → t ≡ fapp f true (fpack (args_of t))
 sum_is d f t s i u e = go (args_of t) refl where
   go : (l : List FlatTerm) → args_of t ≡ l → t ≡ fapp f true (fpack (args_of t))
   go [] q = let n : slice_get [] i ≡ Some u = subst (λ m. slice_get m i ≡ Some u) q e in cc
   go (a ∷ l) q = joined_form d f s.associative t a l s.fits.flat s.heads q ∙ ap (λ m. fapp f true (fpack m)) (sym q)
 
-module _ (d : Declarations) (good : IsGood d) (f : OpId) (whole : FlatTerm) (s : IsSum d f whole) (i j : ℕ) (before : i < j) (t u : FlatTerm) (first : slice_get (args_of whole) i ≡ Some t) (second : slice_get (args_of whole) j ≡ Some u) where
+module _ (d : Declarations) (good : IsGood d) (f : OpId) (whole : FlatTerm) (s : IsFitSum d f whole) (i j : ℕ) (before : i < j) (t u : FlatTerm) (first : slice_get (args_of whole) i ≡ Some t) (second : slice_get (args_of whole) j ≡ Some u) where
   abbrev pub pair : FlatTerm
   pair = fapp f true (fpack (t ∷ u ∷ []))
 
@@ -67,7 +67,7 @@ module _ (d : Declarations) (good : IsGood d) (f : OpId) (whole : FlatTerm) (s :
       ∙ sum_in_order d f (t ∷ u ∷ []) settled.0.in_order (omega arith)
 
 -- what was made of two summands is their pair
-pub is_pair_at : (d : Declarations) → IsGood d → (f : OpId) (whole : FlatTerm) → IsSum d f whole → (i j : ℕ) → i < j → (t u given : FlatTerm) → slice_get (args_of whole) i ≡ Some t → slice_get (args_of whole) j ≡ Some u → given ≡ build d f (t ∷ u ∷ []) → IsPairAt f (args_of whole) i j given
+pub is_pair_at : (d : Declarations) → IsGood d → (f : OpId) (whole : FlatTerm) → IsFitSum d f whole → (i j : ℕ) → i < j → (t u given : FlatTerm) → slice_get (args_of whole) i ≡ Some t → slice_get (args_of whole) j ≡ Some u → given ≡ build d f (t ∷ u ∷ []) → IsPairAt f (args_of whole) i j given
 is_pair_at d good f whole s i j before t u given first second e = record { first = t; second = u; at_first = first; at_second = second; is = e ∙ two_builds d good f whole s i j before t u first second }
 
 one_form : (a b : FlatTerm) → Some a ≡ Some b → a ≡ b
@@ -82,7 +82,7 @@ one_pair f ts i j a b p q =
 
 module _ (r : Rewriting) (unifiers : ℕ) (v : Variant) where
   -- the turns at a pair
-  pub pair_turns : IsGood r.signature → (member : ℕ) (path : List ℕ) (f : OpId) (whole : FlatTerm) → IsSumAt r v member path f whole → IsSum r.signature f whole → (i j : ℕ) → i < j → (at : FlatTerm) → IsPairAt f (args_of whole) i j at →
+  pub pair_turns : IsGood r.signature → (member : ℕ) (path : List ℕ) (f : OpId) (whole : FlatTerm) → IsSumAt r v member path f whole → IsFitSum r.signature f whole → (i j : ℕ) → i < j → (at : FlatTerm) → IsPairAt f (args_of whole) i j at →
       (others : List FlatTerm) → AreOthers (args_of whole) i j others → All (λ (rule : Rule). IsTurnAt r v at (turn_of member path (Some (f, others)) rule)) (headed r.rules f)
   pair_turns good member path f whole s sum i j before at p others are = All-weaker (Contains (headed r.rules f)) (λ (rule : Rule). IsTurnAt r v at (turn_of member path (Some (f, others)) rule)) turn (headed r.rules f) (All-contains_itself (headed r.rules f)) where
     divided : IsDivided (args_of whole) (p.first ∷ p.second ∷ []) others
@@ -155,7 +155,7 @@ pub two_items : (l first second : List FlatTerm) (a b t u : FlatTerm) → l ≡ 
 two_items l first second a b t u e1 e2 e3 ea eb = e3 ∙ ap (λ m. m ++ b ∷ []) (e2 ∙ ap (λ m. m ++ a ∷ []) e1) ∙ ap (λ w. w ∷ b ∷ []) ea ∙ ap (λ w. t ∷ w ∷ []) eb
 
 -- what stands at the end of the path is a sum
-pub sum_of : (r : Rewriting) → IsGood r.signature → (v : Variant) → AllFit r.signature v.terms → (member : ℕ) (path : List ℕ) (f : OpId) (whole : FlatTerm) → IsSumAt r v member path f whole → IsSum r.signature f whole
+pub sum_of : (r : Rewriting) → IsGood r.signature → (v : Variant) → AllFit r.signature v.terms → (member : ℕ) (path : List ℕ) (f : OpId) (whole : FlatTerm) → IsSumAt r v member path f whole → IsFitSum r.signature f whole
 sum_of r good v terms member path f whole s = record {
   fits = path_fits r.signature good.fits path s.form.term whole (fits_at v.terms s.form.term terms (item_listed v.terms member s.form.term s.form.is)) s.form.leads;
   heads = s.form.heads;

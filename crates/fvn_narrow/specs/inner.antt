@@ -1,5 +1,6 @@
 -- What private contracts speak of.
 pub mod Ends
 pub mod Joining
-pub mod Turns
 pub mod Pairing
+pub mod Serving
+pub mod Turns

@@ -44,7 +44,8 @@ fn is_divided<S: Solves>(
     rules: &[Rule],
 ) -> Result<bool, NoMemory>
     ensures { IfOk result (λ is. IsTrue is
-        → (IsAssociative (axioms tools.now.rewriter.now.signature f) × (2 < length (args_of at.now)))) }
+        → (IsAssociative (axioms tools.now.rewriter.now.signature f)
+        × (2 < length (args_of at.now)))) }
 {
     if at.args().len() <= 2 {
         return Ok(false);

@@ -6,6 +6,7 @@ mod expanding;
 mod narrower;
 mod pairing;
 mod posing;
+mod serving;
 mod stepping;
 mod summing;
 mod tools;

@@ -12,7 +12,7 @@ ghost use Rattle.fvn_rewrite_rules.specs.Given.{headed};
 ghost use Rattle.fvn_rewrite.specs.Usable.{equations_by};
 ghost use Rattle.fvn_lifting.specs.Pairs.{IsOneSummand, SummandsKeep, MayBeAnySummand, MeetsOne, IsMetByTwo};
 ghost use Rattle.fvn_lifting.specs.Pairs.{parted_sum, IsParted, IsMetBySome, IsMet, IsMetInPairs};
-ghost use Rattle.fvn_narrow.specs.inner.Pairing.{RankKeeps, AreAmong, HasInner, AddsUp, IsBeside, IsHeadedFit};
+ghost use Rattle.fvn_narrow.specs.inner.Pairing.{RankKeeps, AreAmong, HasInner, HasSumOf, IsOneBeside, IsHeadedFit};
 
 use fvn_flat::{Flat, Subst};
 use fvn_rewrite::Rewriter;
@@ -22,7 +22,7 @@ use fvn_terms::{NoMemory, OpId, Rank, SortId, Var};
 use std::alloc::Global;
 
 // Whether the operator is associative.
-fn is_associative(sig: &Signature, f: OpId) -> bool
+pub(crate) fn is_associative(sig: &Signature, f: OpId) -> bool
     ensures { IsTrue result → IsAssociative (axioms sig.now f) }
 {
     sig.axioms(f).is_sum()
@@ -57,7 +57,7 @@ fn rank_keeps(sig: &Signature, rank: &Rank, s: SortId) -> bool
 }
 
 // Whether each sum of the operator that has the sort has only summands of the sort.
-fn summands_keep(sig: &Signature, f: OpId, s: SortId) -> bool
+pub(crate) fn summands_keep(sig: &Signature, f: OpId, s: SortId) -> bool
     requires { IsAssociative (axioms sig.now f) }
     ensures { IsTrue result → SummandsKeep sig.now f s }
 {
@@ -181,7 +181,7 @@ fn spread(
     form: &Flat,
     both: Flat,
 ) -> Result<Flat, NoMemory>
-    requires sum { AddsUp sig.now f x form.now }
+    requires sum { HasSumOf sig.now f x form.now }
     requires fits { Fits sig.now both }
     requires kind { HasKind sig.now (plain both) (kind sig.now x.sort) }
     ensures exact { IfOk result (λ w. w ≡ inst sig.now (value ((x, both) ∷ [])) form.now) }
@@ -203,7 +203,7 @@ fn opened(
     one: Var,
     rest: Var,
 ) -> Result<Flat, NoMemory>
-    requires sum { AddsUp sig.now f x form.now }
+    requires sum { HasSumOf sig.now f x form.now }
     requires sorts { (one.sort ≡ x.sort) × (rest.sort ≡ x.sort) }
     ensures exact { IfOk result (λ t. t ≡ parted_sum sig.now f form.now x one rest) }
     ensures fits { IfOk result (Fits sig.now) }
@@ -223,18 +223,18 @@ fn is_parted(
     x: Var,
     form: &Flat,
 ) -> Result<bool, NoMemory>
-    requires { AddsUp rewriter.now.signature f x form.now }
+    requires { HasSumOf rewriter.now.signature f x form.now }
     ensures { IfOk result (λ is. IsTrue is
         → IsParted rewriter.now.signature (equations_by rewriter.now) f form.now x) }
 {
     let one = new_like(x, 1);
     let rest = new_like(x, 2);
-    let old = form.has_var(one);
-    if old {
+    let has_one = form.has_var(one);
+    if has_one {
         return Ok(false);
     }
-    let other = form.has_var(rest);
-    if other {
+    let has_rest = form.has_var(rest);
+    if has_rest {
         return Ok(false);
     }
     let target = opened(alloc, rewriter.signature(), f, form, x, one, rest)?;
@@ -243,14 +243,14 @@ fn is_parted(
 }
 
 // Whether the operator has no identity.
-fn has_no_identity(sig: &Signature, f: OpId) -> bool
+pub(crate) fn has_no_identity(sig: &Signature, f: OpId) -> bool
     ensures { IsTrue result → identity (axioms sig.now f) ≡ None }
 {
     sig.identity(f).is_none()
 }
 
 // The two arguments of a form, where it has two.
-fn two_of(t: &Flat) -> Option<(&Flat, &Flat)>
+pub(crate) fn two_of(t: &Flat) -> Option<(&Flat, &Flat)>
     ensures { IfSome result (λ p. args_of t.now ≡ p.0.now ∷ p.1.now ∷ []) }
 {
     let ts = t.args();
@@ -262,7 +262,7 @@ fn two_of(t: &Flat) -> Option<(&Flat, &Flat)>
 
 // Whether the sum is of a variable, whose sort its summands keep, and of what another operator heads.
 fn is_beside(sig: &Signature, f: OpId, x: Var, form: &Flat) -> bool
-    ensures { IsTrue result → IsBeside sig.now f x form.now }
+    ensures { IsTrue result → IsOneBeside sig.now f x form.now }
 {
     let associative = is_associative(sig, f);
     if !associative {

@@ -4,7 +4,7 @@ ghost use Rattle.fvn_flat.specs.Forms.{args_of};
 ghost use Rattle.fvn_rewrite_rules.specs.Given.{headed};
 ghost use Rattle.fvn_narrow.specs.inner.Turns.{IsReady, IsSumAt, IsPairAt, IsTryAt, IsTryFrom, IsTryBefore};
 ghost use Rattle.fvn_narrow.specs.inner.Turns.{ForEach, TryLifts, AreFound};
-ghost use Rattle.fvn_narrow.specs.inner.Pairing.{IsSum, AreOthers};
+ghost use Rattle.fvn_narrow.specs.inner.Pairing.{IsFitSum, AreOthers};
 
 use crate::posing::is_whole;
 use crate::stepping::Part;
@@ -28,7 +28,7 @@ fn pair_of(
     i: usize,
     j: usize,
 ) -> Result<Flat, NoMemory>
-    requires sum { IsSum sig.now f sum.now }
+    requires sum { IsFitSum sig.now f sum.now }
     requires places { (i < j) × (j < length (args_of sum.now)) }
     ensures { IfOk result (IsPairAt f (args_of sum.now) i j) }
 {

@@ -1,17 +1,20 @@
 //! Steps at one part by several rules.
 ghost use Rattle.std.specs.Prelude.{IsTrue, All, IfOk};
+ghost use Rattle.fvn_flat.specs.Fits.{Fits};
 ghost use Rattle.fvn_lifting.specs.Pairs.{IsMetInPairs};
 ghost use Rattle.fvn_narrow.specs.inner.Joining.{AreJoined};
-ghost use Rattle.fvn_narrow.specs.inner.Turns.{turn_of, try_of, IsReady, IsTurnAt, IsTryOf};
-ghost use Rattle.fvn_narrow.specs.inner.Turns.{ForEach, TryLiftsUnless, AreFound};
+ghost use Rattle.fvn_narrow.specs.inner.Turns.{turn_of, try_of, IsReady, IsTurnAt, IsTryOf, IsPassedOver};
+ghost use Rattle.fvn_narrow.specs.inner.Turns.{ForEach, TryLiftsUnless, TryLiftsAmong, AreFound};
 
 use crate::pairing::is_met_in_pairs;
 use crate::posing::is_whole;
+use crate::serving::some_serves;
 use crate::stepping::{Part, by_rule};
 use crate::tools::{Solves, Tools};
 use fvn_base::Seq;
 use fvn_cover::Variant;
 use fvn_exploring::{ExpandEnd, Expansion};
+use fvn_flat::Flat;
 use fvn_narrow_children::{Start, no_children};
 use fvn_rewrite_laws::rules_are_lawful;
 use fvn_rewrite_rules::Rule;
@@ -50,34 +53,57 @@ pub(crate) fn is_met<S: Solves>(
     Ok(met)
 }
 
-// The children at a part by a rule; none where rules that are met in pairs are passed over, and this is one.
+// Whether a rule is passed over at a form: where those that are met in pairs are, this is one; where they are not,
+// another one serves in its place.
+fn is_passed_over<S: Solves>(
+    tools: &Tools<'_, '_, S>,
+    alloc: Global,
+    at: &Flat,
+    rules: &[Rule],
+    rule: &Rule,
+    passes: bool,
+) -> Result<bool, NoMemory>
+    requires { Fits tools.now.rewriter.now.signature at.now }
+    ensures { IfOk result (λ is. IsTrue is
+        → IsPassedOver tools.now.rewriter.now passes rules.now (try_of at.now rule.now)) }
+{
+    if passes {
+        let met = is_met(tools, alloc, rule)?;
+        return Ok(met);
+    }
+    let served = some_serves(tools.rewriter.signature(), at, rules, rule);
+    Ok(served)
+}
+
+// The children at a part by a rule, one of several; none where it is passed over.
 fn by_rule_unless<S: Solves>(
     tools: &Tools<'_, '_, S>,
     alloc: Global,
     start: &Start,
     part: &Part<'_>,
+    rules: &[Rule],
     rule: &Rule,
     passes: bool,
 ) -> Result<Expansion, NoMemory>
     requires ready { IsReady tools.now.rewriter.now start.now.variant start.now.next }
     requires turn { IsTurnAt tools.now.rewriter.now start.now.variant part.now.at.now
         (turn_of part.now.member part.now.path.now part.now.beside rule.now) }
+    requires fits { Fits tools.now.rewriter.now.signature part.now.at.now }
     ensures { IfOk result (AreFound tools.now.rewriter.now (S.most_unifiers tools.now.solver.now)
         (S.drawn tools.now.solver.now) start.now.variant
-        (TryLiftsUnless tools.now.rewriter.now (S.most_unifiers tools.now.solver.now)
-        start.now.variant passes (try_of part.now.at.now rule.now))) }
+        (TryLiftsAmong tools.now.rewriter.now (S.most_unifiers tools.now.solver.now)
+        start.now.variant passes rules.now (try_of part.now.at.now rule.now))) }
 {
-    if passes {
-        let met = is_met(tools, alloc, rule)?;
-        if met {
-            return Ok(no_children(alloc));
-        }
+    let over = is_passed_over(tools, alloc, part.at, rules, rule, passes)?;
+    if over {
+        return Ok(no_children(alloc));
     }
     let e = by_rule(tools, alloc, start, part, rule)?;
     Ok(e)
 }
 
-// The children at a part by these rules, up to the first that stops.
+// The children at a part by these rules, up to the first that stops. Where those that are met in pairs are not passed
+// over, those are in whose place another one serves.
 pub(crate) fn by_rules<S: Solves>(
     tools: &Tools<'_, '_, S>,
     alloc: Global,
@@ -94,9 +120,11 @@ pub(crate) fn by_rules<S: Solves>(
         (ForEach (TryLiftsUnless tools.now.rewriter.now (S.most_unifiers tools.now.solver.now)
         start.now.variant passes) (IsTryOf part.now.at.now rules.now))) }
 {
+    tools.rewriter.recall();
+    rules_are_lawful();
     let mut children = Vec::new(alloc);
     for rule in rules {
-        let next = by_rule_unless(tools, alloc, start, part, rule, passes)?;
+        let next = by_rule_unless(tools, alloc, start, part, rules, rule, passes)?;
         let (all, end) = with_more(children, next)?;
         children = all;
         if !is_whole(&end) {

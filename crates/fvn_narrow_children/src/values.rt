@@ -181,7 +181,8 @@ pub fn some_reducible(
 ) -> Result<bool, NoMemory>
     requires sorts { All (λ x. IsSort rewriter.now.signature x.sort) vars.now }
     requires values { BindingsFit rewriter.now.signature new.now }
-    requires old { AreIrreducible rewriter.now.signature (equations_by rewriter.now) vars.now old.now }
+    requires old { AreIrreducible rewriter.now.signature
+        (equations_by rewriter.now) vars.now old.now }
     ensures { IfOk result
         (AreReducibleAs rewriter.now.signature (equations_by rewriter.now) vars.now new.now) }
 {

@@ -19,6 +19,7 @@ impl Model for Calls {
 }
 
 impl Calls {
+    /// No call was made yet; those with these numbers are to fail.
     pub(crate) fn new(failing: Vec<u64>) -> Calls
         ensures { result ≡ no_calls failing.items }
     {

@@ -106,7 +106,8 @@ impl<W: Write> Sink for StdSink<W> {
         ensures bound { IfOk result (λ n. n ≤ length bytes.now) }
         ensures fault { OnErr result (Rose (write_faults self.old) (write_faults self.new)) }
         ensures stuck { IfOk result
-            (λ n. n ≡ 0 → 0 < length bytes.now → Rose (write_faults self.old) (write_faults self.new)) }
+            (λ n. n ≡ 0 → 0 < length bytes.now
+            → Rose (write_faults self.old) (write_faults self.new)) }
         ensures uncounted { IfOk result
             (λ n. 0 < n → write_faults self.new ≡ write_faults self.old) }
         ensures never_falls { write_faults self.old ≤ write_faults self.new }
@@ -115,7 +116,8 @@ impl<W: Write> Sink for StdSink<W> {
         // takes nothing.
         ensures bytes { WriteAppends (W.contents (writer_of self.old))
             (W.contents (writer_of self.new)) result bytes.now }
-        ensures counted { OnErr result (write_faults self.new ≡ next_count (write_faults self.old)) }
+        ensures counted { OnErr result (write_faults self.new
+            ≡ next_count (write_faults self.old)) }
         ensures counted_stuck { IfOk result (λ n. write_faults self.new ≡
             (if n == 0 then next_count (write_faults self.old) else write_faults self.old)) }
     {

@@ -9,7 +9,8 @@ use std::alloc::Global;
 
 /// The form to which the path leads; nothing where it leads to none.
 pub fn form_at<'a>(t: &'a Flat, path: &[usize]) -> Option<&'a Flat>
-    ensures { MatchOption result (LeadsNowhere path.now t.now) (λ at. LeadsTo path.now t.now at.now) }
+    ensures { MatchOption result (LeadsNowhere path.now t.now) (λ at.
+        LeadsTo path.now t.now at.now) }
 {
     let mut at = t;
     for i in path {

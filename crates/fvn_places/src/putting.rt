@@ -51,7 +51,8 @@ fn with_argument(
     requires head { head_of t.now ≡ Some f }
     requires argument { MayStandFor sig.now t.now place u }
     ensures { IfOk result (λ whole.
-        whole ≡ build sig.now f (take place (args_of t.now) ++ u ∷ drop (place + 1) (args_of t.now))) }
+        whole ≡ build sig.now f
+        (take place (args_of t.now) ++ u ∷ drop (place + 1) (args_of t.now))) }
 {
     sig.recall_good();
     let args = with_one_replaced(alloc, t.args(), place, u)?;

@@ -296,7 +296,8 @@ fn walk_named<'a>(
     piece: &Piece<'a>,
 ) -> Result<Walk<'a>, NoMemory>
     ensures { IfOk result (λ next. view next ≡
-        step_at signature.now scope.now.names (reverse frames.items) piece.now (Spot.Named name.now)) }
+        step_at signature.now scope.now.names (reverse frames.items) piece.now
+        (Spot.Named name.now)) }
 {
     if piece.is_special(b"(") {
         return open(frames, Frame::Call(operator(scope, name), Seq::new(alloc)));
@@ -317,7 +318,8 @@ fn walk_bracket<'a>(
     piece: &Piece<'a>,
 ) -> Walk<'a>
     ensures { view result ≡
-        step_at signature.now scope.now.names (reverse frames.items) piece.now (Spot.Bracket first) }
+        step_at signature.now scope.now.names (reverse frames.items) piece.now
+        (Spot.Bracket first) }
 {
     if piece.is_special(b"]") {
         return walk_at(frames, Spot::Whole(of_sort(or_first(first))));

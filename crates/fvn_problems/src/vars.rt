@@ -44,6 +44,7 @@ pub fn add_variables(vars: &mut Vec<Var>, t: &Plain) -> Result<(), NoMemory>
     Ok(())
 }
 
+// The variables of all the terms behind those that are there.
 #[cycle(variables)]
 fn add_all(vars: &mut Vec<Var>, us: &Args) -> Result<(), NoMemory>
     ensures { OnOk result (vars.new.items ≡ with_all vars.old.items us.now) }

@@ -6,9 +6,9 @@ use Rattle.std.proofs.lemmas.List.Elements.{Contains-append_left, Contains-push,
 use Rattle.fvn_base.proofs.Membership.{contains_here, contains_cases, contains_none}
 use Rattle.fvn_terms.specs.declared.plain.Var.{Var}
 use Rattle.fvn_terms.specs.declared.declarations.Declarations.{Declarations}
-use Rattle.fvn_refine.specs.inner.Rows.{Row, IsRow, IsRowBelow, HasAbove, with_rows}
+use Rattle.fvn_refine.specs.inner.Rows.{Row, IsRow, IsRowBelow, HasAbove, IsAntichain, with_rows, AreJoined}
 use Rattle.fvn_refine.specs.inner.Found.{Finds, AreRows}
-use Rattle.fvn_refine.proofs.RowTests.{with_rows-from, with_rows-above, with_rows-new, with_rows-apart, none_apart, one_apart}
+use Rattle.fvn_refine.proofs.RowTests.{above-member, no_member, with_rows-from, with_rows-above, with_rows-new, with_rows-apart, none_apart, one_apart}
 
 -- the first items of a list, with one more
 module _ {A : Type 0} (l : List A) (i : ℕ) (a : A) (within : i < length l) (is : a ≡ get_or l i a) where
@@ -56,8 +56,11 @@ module _ (d : Declarations) (xs : List Var) where
     pub finds_for_none : Finds d xs (ForOne (take 0 l)) []
     finds_for_none = finds_none (ForOne (take 0 l)) (λ m h p. contains_none p.0 p.1.0)
 
-    pub finds_for_more : (i : ℕ) (a : A) → i < length l → a ≡ get_or l i a → (rows more all : List Row) → Finds d xs (ForOne (take i l)) rows → Finds d xs (P a) more → all ≡ with_rows d rows more → Finds d xs (ForOne (take (i + 1) l)) all
-    finds_for_more i a within is rows more all h k e = subst (Finds d xs (ForOne (take (i + 1) l))) (sym e) together
+    pub finds_for_more : (i : ℕ) (a : A) → i < length l → a ≡ get_or l i a → (rows more all : List Row) → Finds d xs (ForOne (take i l)) rows → Finds d xs (P a) more → AreJoined d rows more all → Finds d xs (ForOne (take (i + 1) l)) all
+    finds_for_more i a within is rows more all h k joined = elim joined [
+      | inl e ↦ subst (Finds d xs (ForOne (take (i + 1) l))) (sym e) together
+      | inr e ↦ subst (Finds d xs (ForOne (take (i + 1) l))) (sym e.1) (alone e.0)
+    ]
       where
         old : (r : Row) → IsRow d xs r × ForOne (take i l) r → IsRow d xs r × ForOne (take (i + 1) l) r
         old r f = (f.0, (f.1.0, (taken_old l i a within is f.1.0 f.1.1.0, f.1.1.1)))
@@ -75,6 +78,16 @@ module _ (d : Declarations) (xs : List Var) where
           apart = with_rows-apart d rows more h.apart;
         }
 
+        alone : length rows ≡ 0 → Finds d xs (ForOne (take (i + 1) l)) more
+        alone none = record {
+          found = λ r c. let f = k.found r c in (f.0, (a, (taken_new l i a within is, f.1)));
+          covers = λ m j p. elim (taken_cases l i a within is p.0 p.1.0) [
+            | inl o ↦ let above = h.covers m j (p.0, (o, p.1.1)) in absurd (no_member d rows above.0 none above.1.0)
+            | inr n ↦ k.covers m j (subst (λ b. P b m) (sym n) p.1.1)
+          ];
+          apart = k.apart;
+        }
+
     pub finds_for_all : (i : ℕ) → length l ≤ i → (rows : List Row) → Finds d xs (ForOne (take i l)) rows → Finds d xs (ForOne l) rows
     finds_for_all i past rows h = subst (λ z. Finds d xs (ForOne z) rows) (take_all i l past) h
 
@@ -84,6 +97,14 @@ module _ (d : Declarations) (xs : List Var) where
     finds_from_rows all h =
         finds_same (ForOne (λ r m. IsRowBelow d m r × G m) rows rows) (λ m. HasAbove d rows m × G m)
         (λ m i p. ((p.0, (p.1.0, p.1.1.0)), p.1.1.1)) (λ m i p. (p.0.0, (p.0.1.0, (p.0.1.1, p.1)))) all h
+
+    -- where each of them has it, they are all that is found
+    pub finds_themselves : AreRows d xs rows → IsAntichain d rows → ((r : Row) → Contains rows r → G r) → Finds d xs (λ m. HasAbove d rows m × G m) rows
+    finds_themselves are none_below has = record {
+      found = λ r c. (are r c, (above-member d rows r c, has r c));
+      covers = λ m i p. p.0;
+      apart = none_below;
+    }
 
   -- one property after another, where rows below keep the first
   module _ (P G Q : Row → Type 0) (keeps : (m r : Row) → IsRow d xs m → IsRow d xs r → IsRowBelow d m r → P r → P m) where

@@ -135,13 +135,6 @@ module _ (d : Declarations) where
             both r q below (inr g) (inr f) = sym g ∙ f
 
   -- several more
-  -- one row where there is none
-  pub with_rows-first : (rows more : List Row) → length rows ≡ 0 → length more ≡ 1 → more ≡ with_rows d rows more
-  with_rows-first [] [] e f = absurd (omega (arith, f))
-  with_rows-first [] (row ∷ []) e f = refl
-  with_rows-first [] (row ∷ next ∷ more) e f = absurd (omega (arith, f))
-  with_rows-first (row ∷ rows) more e f = absurd (omega (arith, e))
-
   pub with_rows-push : (rows more : List Row) (row : Row) → with_rows d rows (more ++ row ∷ []) ≡ with_row d (with_rows d rows more) row
   with_rows-push rows [] row = refl
   with_rows-push rows (m ∷ more) row = with_rows-push (with_row d rows m) more row
@@ -176,3 +169,8 @@ module _ (d : Declarations) where
     | inl e ↦ elim (contains_cases row [] q k) [ inl f ↦ sym e ∙ f | inr l ↦ absurd (contains_none q l) ]
     | inr l ↦ absurd (contains_none r l)
   ]
+
+  -- an empty list has no member
+  pub no_member : (rows : List Row) (row : Row) → length rows ≡ 0 → Contains rows row → ⊥
+  no_member [] row e c = contains_none row c
+  no_member (r ∷ rows) row e c = omega (arith, e)

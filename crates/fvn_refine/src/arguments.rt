@@ -20,7 +20,8 @@ fn with_arguments(
     s: SortId,
 ) -> Result<Vec<Seq<SortId>>, NoMemory>
     ensures { IfOk result (λ all. all.items ≡
-        (if at_or_below sig.now rank.now.result s then with_row sig.now rows.items rank.now.args else rows.items)) }
+        (if at_or_below sig.now rank.now.result s
+        then with_row sig.now rows.items rank.now.args else rows.items)) }
 {
     if !is_at_or_below(sig, rank.result, s) {
         return Ok(rows);

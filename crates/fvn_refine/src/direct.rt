@@ -33,7 +33,8 @@ fn first_low(sig: &Signature, f: OpId, s: SortId, from: usize) -> Option<usize>
 
 // Whether the rank gives no sort at or below this one, or its arguments are at or below these.
 fn is_served(sig: &Signature, rank: &Rank, s: SortId, args: &[SortId]) -> bool
-    ensures { IsTrue result → AtOrBelow sig.now rank.now.result s → IsRowBelow sig.now rank.now.args args.now }
+    ensures { IsTrue result → AtOrBelow sig.now rank.now.result s
+        → IsRowBelow sig.now rank.now.args args.now }
 {
     if !sig.leq(rank.result, s) {
         return true;

@@ -103,7 +103,8 @@ impl Search<'_> {
     ) -> Result<Vec<Seq<SortId>>, NoMemory>
         requires row { IsRow self.now.sig.now self.now.vars.now way.now }
         ensures { let d = self.now.sig.now in let xs = self.now.vars.now in
-            IfOk result (λ rows. Finds d xs (λ m. IsRowBelow d m way.now × IsUnder d xs (fvar y) s m) rows.items) }
+            IfOk result (λ rows.
+            Finds d xs (λ m. IsRowBelow d m way.now × IsUnder d xs (fvar y) s m) rows.items) }
     {
         self.sig.recall_good();
         self.sig.recall_completed();
@@ -135,7 +136,10 @@ impl Search<'_> {
     ) -> Result<Vec<Seq<SortId>>, NoMemory>
         requires { length self.now.vars.now ≡ length way.now }
         ensures { let d = self.now.sig.now in
-            IfOk result (λ all. all.items ≡ (if at_or_below d z here && at_or_below d z s then with_row d rows.items (placed self.now.vars.now way.now y z) else rows.items)) }
+            IfOk result (λ all.
+            all.items ≡ (if at_or_below d z here && at_or_below d z s
+            then with_row d rows.items (placed self.now.vars.now way.now y z)
+            else rows.items)) }
     {
         if !is_at_or_below(self.sig, z, here) {
             return Ok(rows);
@@ -154,7 +158,8 @@ impl Search<'_> {
         requires row { IsRow self.now.sig.now self.now.vars.now way.now }
         requires term { Fits self.now.sig.now t.now }
         ensures { let d = self.now.sig.now in let xs = self.now.vars.now in
-            IfOk result (λ rows. Finds d xs (λ m. IsRowBelow d m way.now × IsUnder d xs t.now s m) rows.items) }
+            IfOk result (λ rows.
+            Finds d xs (λ m. IsRowBelow d m way.now × IsUnder d xs t.now s m) rows.items) }
     {
         if let Some(y) = t.as_var() {
             let rows = self.lower_variable(way, y, s)?;
@@ -185,7 +190,8 @@ impl Search<'_> {
         requires rows { AreRows self.now.sig.now self.now.vars.now rows.now }
         requires term { Fits self.now.sig.now t.now }
         ensures { let d = self.now.sig.now in let xs = self.now.vars.now in
-            IfOk result (λ all. Finds d xs (λ m. HasAbove d rows.now m × IsUnder d xs t.now s m) all.items) }
+            IfOk result (λ all.
+            Finds d xs (λ m. HasAbove d rows.now m × IsUnder d xs t.now s m) all.items) }
     {
         let mut all = Vec::new(self.alloc);
         for row in rows {
@@ -237,7 +243,8 @@ impl Search<'_> {
         requires row { IsRow self.now.sig.now self.now.vars.now way.now }
         requires terms { AllFit self.now.sig.now ts.now }
         ensures { let d = self.now.sig.now in let xs = self.now.vars.now in
-            IfOk result (λ rows. Finds d xs (λ m. IsRowBelow d m way.now × AreUnder d xs ts.now args.now m) rows.items) }
+            IfOk result (λ rows. Finds d xs (λ m. IsRowBelow d m way.now
+            × AreUnder d xs ts.now args.now m) rows.items) }
     {
         self.sig.recall_good();
         if ts.len() != args.len() {
@@ -262,7 +269,8 @@ impl Search<'_> {
         requires row { IsRow self.now.sig.now self.now.vars.now way.now }
         requires term { Fits self.now.sig.now (fapp f false (fpack ts.now)) }
         ensures { let d = self.now.sig.now in let xs = self.now.vars.now in
-            IfOk result (λ rows. Finds d xs (λ m. IsRowBelow d m way.now × IsResultUnder d xs f ts.now s m) rows.items) }
+            IfOk result (λ rows. Finds d xs (λ m. IsRowBelow d m way.now
+            × IsResultUnder d xs f ts.now s m) rows.items) }
     {
         self.sig.recall_good();
         let lists = arguments(self.alloc, self.sig, f, s)?;
@@ -287,7 +295,8 @@ impl Search<'_> {
         requires row { IsRow self.now.sig.now self.now.vars.now way.now }
         requires sum { AreSummands self.now.sig.now f ts.now }
         ensures { let d = self.now.sig.now in let xs = self.now.vars.now in
-            IfOk result (λ rows. Finds d xs (λ m. IsRowBelow d m way.now × IsSumUnder d xs f ts.now s m) rows.items) }
+            IfOk result (λ rows. Finds d xs (λ m. IsRowBelow d m way.now
+            × IsSumUnder d xs f ts.now s m) rows.items) }
     {
         self.sig.recall_good();
         let last = ts.len() - 1;
@@ -346,7 +355,8 @@ impl Search<'_> {
         requires sum { AreSummands self.now.sig.now f front.now }
         requires term { Fits self.now.sig.now last.now }
         ensures { let d = self.now.sig.now in let xs = self.now.vars.now in
-            IfOk result (λ rows. Finds d xs (λ m. IsRowBelow d m way.now × IsPairUnder d xs f front.now last.now args.now m) rows.items) }
+            IfOk result (λ rows. Finds d xs (λ m. IsRowBelow d m way.now
+            × IsPairUnder d xs f front.now last.now args.now m) rows.items) }
     {
         self.sig.recall_good();
         let pair = match pair_of(args) {
@@ -371,7 +381,8 @@ impl Search<'_> {
         requires rows { AreRows self.now.sig.now self.now.vars.now rows.now }
         requires sum { AreSummands self.now.sig.now f ts.now }
         ensures { let d = self.now.sig.now in let xs = self.now.vars.now in
-            IfOk result (λ all. Finds d xs (λ m. HasAbove d rows.now m × IsSumUnder d xs f ts.now s m) all.items) }
+            IfOk result (λ all.
+            Finds d xs (λ m. HasAbove d rows.now m × IsSumUnder d xs f ts.now s m) all.items) }
     {
         let mut all = Vec::new(self.alloc);
         for row in rows {

@@ -2,7 +2,7 @@
 ghost use Rattle.std.specs.Prelude.{◌≡◌, [], ◌∷◌, not, length, IsTrue, IfOk};
 ghost use Rattle.std.specs.List.{filter, list_any};
 ghost use Rattle.fvn_forms.specs.SortOrder.{at_or_below};
-ghost use Rattle.fvn_refine.specs.inner.Rows.{is_row_below, with_row, with_rows};
+ghost use Rattle.fvn_refine.specs.inner.Rows.{is_row_below, with_row, with_rows, AreJoined};
 
 use fvn_base::Seq;
 use fvn_signature::Signature;
@@ -53,7 +53,7 @@ fn without_below(
     ensures { IfOk result (λ kept. kept.items ≡ filter (λ r. not
         (is_row_below sig.now r row.now)) rows.items) }
 {
-    let mut kept = Vec::new(alloc);
+    let mut kept = Vec::with_capacity(alloc, rows.len().saturating_add(1))?;
     for r in rows {
         if is_row_below(sig, r.as_slice(), row) {
             continue;
@@ -80,18 +80,15 @@ pub(crate) fn with_row(
     Ok(all)
 }
 
-// Whether there is no row yet, and one more.
-fn is_first(rows: &[Seq<SortId>], more: &[Seq<SortId>]) -> bool
-    ensures { IsTrue result → (length rows.now ≡ 0) × (length more.now ≡ 1) }
+// Whether there is no row.
+fn is_none(rows: &[Seq<SortId>]) -> bool
+    ensures { IsTrue result → length rows.now ≡ 0 }
 {
-    if !rows.is_empty() {
-        return false;
-    }
-    more.len() == 1
+    rows.is_empty()
 }
 
-// The rows with more of them, but for those below another.
-pub(crate) fn with_rows(
+// The rows with more of them, one after another, but for those below another.
+fn with_each(
     alloc: Global,
     sig: &Signature,
     rows: Vec<Seq<SortId>>,
@@ -99,13 +96,26 @@ pub(crate) fn with_rows(
 ) -> Result<Vec<Seq<SortId>>, NoMemory>
     ensures { IfOk result (λ all. all.items ≡ with_rows sig.now rows.items more.items) }
 {
-    if is_first(rows.as_slice(), more.as_slice()) {
-        return Ok(more);
-    }
     let mut all = rows;
     for row in more {
         all = with_row(alloc, sig, all, row)?;
     }
+    Ok(all)
+}
+
+// The rows with more of them, but for those below another; where there are none, the others as they are.
+pub(crate) fn with_rows(
+    alloc: Global,
+    sig: &Signature,
+    rows: Vec<Seq<SortId>>,
+    more: Vec<Seq<SortId>>,
+) -> Result<Vec<Seq<SortId>>, NoMemory>
+    ensures { IfOk result (λ all. AreJoined sig.now rows.items more.items all.items) }
+{
+    if is_none(rows.as_slice()) {
+        return Ok(more);
+    }
+    let all = with_each(alloc, sig, rows, more)?;
     Ok(all)
 }
 

@@ -13,3 +13,4 @@ mod Seen
 mod Beginning
 mod Trying
 mod Repeated
+mod Fewer

@@ -1,7 +1,9 @@
 -- Whether a step is possible: what is told of rules, of the root, and of all places.
-use Rattle.std.proofs.Common.{◌≡◌, ℕ, ◌+◌, Bool, true, false, List, [], ◌∷◌, ◌++◌, take, drop, Option, Some, None, refl, sym, ◌∙◌, subst}
+use Rattle.std.proofs.Common.{◌≡◌, ℕ, zero, suc, ◌+◌, ◌-◌, ◌≤◌, Bool, true, false, List, [], ◌∷◌, ◌++◌, take, drop, length, get_or, Option, Some, None, refl, sym, ap, ◌∙◌, subst, arith}
 use Rattle.std.specs.Prelude.{All, Contains, is_some}
 use Rattle.std.specs.List.{AllByRecursion}
+use Rattle.std.proofs.lemmas.List.{drop_more}
+use Rattle.std.proofs.lemmas.List.Elements.{All-nil, All-cons}
 use Rattle.fvn_terms.specs.declared.plain.OpId.{OpId}
 use Rattle.fvn_terms.specs.declared.declarations.Declarations.{Declarations}
 use Rattle.fvn_terms.specs.Laws.{RewritingIsLawful}
@@ -27,13 +29,27 @@ use Rattle.fvn_rewrite_coherence.specs.Laws.{RulesAreCoherent, CoherenceLaws}
 use Rattle.fvn_rewrite_rules.specs.declared.rule.Rule.{Rule}
 use Rattle.fvn_rewrite_rules.specs.Given.{RuleLists, headed}
 use Rattle.fvn_rewrite.specs.Usable.{AreUsable}
-use Rattle.fvn_rewrite.specs.inner.Trying.{SidesFit, MatchAs, HasNoMatch, IsMatch, TriesAs}
+use Rattle.fvn_rewrite.specs.inner.Trying.{SidesFit, MatchAs, HasNoMatch, NoneMatches, IsMatch, TriesAs}
 use Rattle.fvn_rewrite.specs.inner.Walking.{HasNoRedex, IsNext, ArgumentSteps, RootAs, WalkAs}
 use Rattle.fvn_rewrite.specs.inner.Testing.{ToldAs}
 use Rattle.fvn_rewrite.proofs.Found.{found_none}
 use Rattle.fvn_rewrite.proofs.Placed.{walk_as}
 use Rattle.fvn_rewrite.proofs.Replacing.{arguments_fit, arguments_taken, whole_steps}
 use Rattle.fvn_rewrite.proofs.Roots.{root_as}
+
+-- behind all rules there is none that matches
+pub none_behind : (d : Declarations) (t : FlatTerm) (rules : List Rule) (n : ℕ) → length rules ≤ n → NoneMatches d t (drop n rules)
+none_behind d t [] zero h = All-nil (HasNoMatch d t)
+none_behind d t [] (suc n) h = All-nil (HasNoMatch d t)
+none_behind d t (rule ∷ rules) zero h = absurd (omega (arith, h))
+none_behind d t (rule ∷ rules) (suc n) h = none_behind d t rules n (omega (arith, h))
+
+-- one rule more, before those that do not match
+pub none_before : (d : Declarations) (t : FlatTerm) (rules : List Rule) (i : ℕ) (rule : Rule) → 1 ≤ i → i ≤ length rules → rule ≡ get_or rules (i - 1) rule → HasNoMatch d t rule → NoneMatches d t (drop i rules) → NoneMatches d t (drop (i - 1) rules)
+none_before d t rules i rule some within at here behind =
+    let next : i ≡ i - 1 + 1 = omega (arith, some) in
+    let whole : drop (i - 1) rules ≡ rule ∷ drop (i - 1 + 1) rules = drop_more rules (i - 1) rule (omega (arith, some, within)) ∙ ap (λ v. v ∷ drop (i - 1 + 1) rules) (sym at) in
+    subst (All (HasNoMatch d t)) (sym whole) (All-cons (HasNoMatch d t) rule (drop (i - 1 + 1) rules) here (subst (λ k. All (HasNoMatch d t) (drop k rules)) next behind))
 
 module _ (d : Declarations) where
   -- the rule that matches gives an instance of its right side

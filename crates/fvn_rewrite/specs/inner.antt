@@ -4,6 +4,7 @@ pub mod Twins
 pub mod Walking
 pub mod Testing
 pub mod Turns
+pub mod Short
 pub mod SortedTerms
 pub mod SortedCode
 pub mod Content

@@ -8,6 +8,7 @@ mod quick;
 mod rewriter;
 mod root;
 mod shared;
+mod short;
 mod stepping;
 mod testing;
 mod twins;

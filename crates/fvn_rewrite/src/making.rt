@@ -76,7 +76,8 @@ fn turn(
     requires laws { AreStepRules pass.now.sig.now pass.now.rules.now }
     requires form { Fits pass.now.sig.now p.now }
     requires bindings { AreBindings pass.now.sig.now bound.now }
-    ensures { IfOk result (λ o. IfSome o (TurnsTo pass.now.sig.now (equations_of pass.now.rules.now.equations)
+    ensures { IfOk result (λ o.
+        IfSome o (TurnsTo pass.now.sig.now (equations_of pass.now.rules.now.equations)
         (apply (standing_for bound.now) (plain p.now)) left)) }
 {
     match p.as_var() {
@@ -109,7 +110,8 @@ fn make_all(
     requires laws { AreStepRules pass.now.sig.now pass.now.rules.now }
     requires forms { AllFit pass.now.sig.now ps.now }
     requires bindings { AreBindings pass.now.sig.now bound.now }
-    ensures { IfOk result (λ o. IfSome o (AreMade pass.now.sig.now (equations_of pass.now.rules.now.equations)
+    ensures { IfOk result (λ o.
+        IfSome o (AreMade pass.now.sig.now (equations_of pass.now.rules.now.equations)
         (apply_all (standing_for bound.now) (plain_all (fpack ps.now))) left)) }
 {
     if depth == 0 {
@@ -145,7 +147,8 @@ pub(crate) fn make(
     requires laws { AreStepRules pass.now.sig.now pass.now.rules.now }
     requires form { Fits pass.now.sig.now p.now }
     requires bindings { AreBindings pass.now.sig.now bound.now }
-    ensures { IfOk result (λ o. IfSome o (IsMade pass.now.sig.now (equations_of pass.now.rules.now.equations)
+    ensures { IfOk result (λ o.
+        IfSome o (IsMade pass.now.sig.now (equations_of pass.now.rules.now.equations)
         (apply (standing_for bound.now) (plain p.now)) left)) }
 {
     let turned = turn(pass, depth, p, bound, left)?;
@@ -172,7 +175,8 @@ fn settle(
     requires free { axioms pass.now.sig.now f ≡ Axioms.Free }
     requires sorted { AreSorted pass.now.sig.now (spack args.items) }
     requires kinded { IsTerm pass.now.sig.now (app f (terms_of args.items)) }
-    ensures { IfOk result (λ o. IfSome o (IsMade pass.now.sig.now (equations_of pass.now.rules.now.equations)
+    ensures { IfOk result (λ o.
+        IfSome o (IsMade pass.now.sig.now (equations_of pass.now.rules.now.equations)
         (app f (terms_of args.items)) left)) }
 {
     let mut head = f;

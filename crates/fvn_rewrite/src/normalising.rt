@@ -58,7 +58,8 @@ fn reduced(
 ) -> Result<Normal, NoMemory>
     requires term { Fits sig.now t.now }
     requires rules { AreUsable sig.now rules.now }
-    requires next { TurnAs sig.now (equations_of rules.now.equations) t.now bounds.size (Next next) }
+    requires next { TurnAs sig.now (equations_of rules.now.equations) t.now bounds.size
+        (Next next) }
     ensures { IfOk result
         (IsNormalised sig.now (equations_of rules.now.equations) t.now bounds) }
 {

@@ -7,6 +7,7 @@ ghost use Rattle.fvn_rewrite.specs.inner.Trying.{SidesFit, AllSidesFit, MatchAs,
 ghost use Rattle.fvn_rewrite.specs.inner.Walking.{RootAs};
 ghost use Rattle.fvn_rewrite.specs.Usable.{AreUsable};
 
+use crate::short::lacks_arguments;
 use crate::twins::lacks_twins;
 use fvn_flat::{Flat, Subst};
 use fvn_match::{matches, may_match};
@@ -32,6 +33,10 @@ pub(crate) fn rule_match(
 {
     let open = may_match(sig, &rule.left, t);
     if !open {
+        return Ok(None);
+    }
+    let short = lacks_arguments(sig, &rule.left, t);
+    if short {
         return Ok(None);
     }
     let lost = lacks_twins(sig, &rule.left, t);

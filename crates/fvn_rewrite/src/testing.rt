@@ -20,15 +20,18 @@ use fvn_signature::Signature;
 use fvn_terms::{NoMemory, OpId, rewriting_is_lawful};
 use std::alloc::Global;
 
-// Whether one of the rules matches the form.
+// Whether one of the rules matches the form. They are tried from the last on, since an extension stands behind the rule
+// that it extends, and matches more sums.
 fn some_match(alloc: Global, sig: &Signature, rules: &[Rule], t: &Flat) -> Result<bool, NoMemory>
     requires rules { AllSidesFit sig.now rules.now }
     requires term { Fits sig.now t.now }
     ensures { IfOk result (ToldAs (TriesAs sig.now rules.now t.now)) }
 {
     sig.recall_good();
-    for rule in rules {
-        let found = rule_match(alloc, sig, rule, t)?;
+    let mut i = rules.len();
+    while i > 0 {
+        i -= 1;
+        let found = rule_match(alloc, sig, &rules[i], t)?;
         let met = found.is_some();
         if met {
             return Ok(true);

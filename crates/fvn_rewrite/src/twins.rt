@@ -24,14 +24,14 @@ fn has_twins(ts: &[Flat]) -> bool
 }
 
 // Whether what the operator heads are sums.
-fn makes_sums(sig: &Signature, f: OpId) -> bool
+pub(crate) fn makes_sums(sig: &Signature, f: OpId) -> bool
     ensures { IsTrue result → IsAssociative (axioms sig.now f) }
 {
     sig.axioms(f).is_sum()
 }
 
 // Whether the operator has no identity, so that each argument stays at least one summand.
-fn is_lasting(sig: &Signature, f: OpId) -> bool
+pub(crate) fn is_lasting(sig: &Signature, f: OpId) -> bool
     ensures { IsTrue result → identity (axioms sig.now f) ≡ None }
 {
     match sig.identity(f) {

@@ -29,7 +29,8 @@ module _ (d : Declarations) (s : Substitution) where
     -- and what occurs there occurs in t
     pub occurs : (x : Var) → Occurs x (plain at) → Occurs x (plain t)
     -- it is enough that t's variables have the same values modulo the axioms
-    pub makes : (given : FlatTerm) (by : Substitution) → AgreeOn d (plain t) by s → BEqual d (apply by (plain given)) v → BEqual d (apply by (plain (put given))) u
+    pub makes : (given : FlatTerm) (by : Substitution) → AgreeOn d (plain t) by s →
+        BEqual d (apply by (plain given)) v → BEqual d (apply by (plain (put given))) u
 
 module _ (d : Declarations) (equations : Equations) (s : Substitution) where
   -- a part of t is no variable, and its instance is a redex; one operator heads the part, its instance, and the left side of a rule

@@ -39,7 +39,8 @@ RulesAreCoherent = (d : Declarations) → IsGood d → IsCompleted d → (equati
 
 -- along sequences with admissible sort-decreasing equations each sort of the first term is one of the last
 abbrev pub SequencesKeepSorts : Type 0
-SequencesKeepSorts = (d : Declarations) → IsGood d → IsCompleted d → (equations : Equations) → AreAdmissible d equations → AreSortDecreasing d equations →
+SequencesKeepSorts = (d : Declarations) → IsGood d → IsCompleted d → (equations : Equations) →
+    AreAdmissible d equations → AreSortDecreasing d equations →
     (n : ℕ) (t u : Term) → IsTerm d t → TermSequence d equations n t u → (s : SortId) → HasSort d t s → HasSort d u s
 
 -- where the steps of well-sorted instances of a form stand, and which they are
@@ -47,9 +48,12 @@ pub record InstanceLaws (d : Declarations) (equations : Equations) (t : FlatTerm
   -- each is one at a part of the form, or within the value of a variable
   pub placed : (u : Term) → Rewrites d equations (apply s (plain t)) u → StepsAtPart d equations s t u ⊎ StepsInValue d equations s t u
   -- and at a part, where the values of the form's variables are irreducible
-  pub at_part : ((x : Var) → Occurs x (plain t) → IsIrreducible d equations (s x)) → (u : Term) → Rewrites d equations (apply s (plain t)) u → StepsAtPart d equations s t u
+  pub at_part : ((x : Var) → Occurs x (plain t) → IsIrreducible d equations (s x)) → (u : Term) →
+      Rewrites d equations (apply s (plain t)) u → StepsAtPart d equations s t u
   -- each step of the instance of a part is one of the whole instance
-  pub steps : (at given replaced : FlatTerm) → IsReplaced at given t replaced → Rewrites d equations (apply s (plain at)) (apply s (plain given)) → Rewrites d equations (apply s (plain t)) (apply s (plain replaced))
+  pub steps : (at given replaced : FlatTerm) → IsReplaced at given t replaced →
+      Rewrites d equations (apply s (plain at)) (apply s (plain given)) →
+      Rewrites d equations (apply s (plain t)) (apply s (plain replaced))
 
 -- in a good signature with all that its queries need, for admissible equations and forms that fit
 abbrev pub InstancesStepAtParts : Type 0

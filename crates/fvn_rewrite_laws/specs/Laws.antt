@@ -47,7 +47,8 @@ pub record SequenceLaws (d : Declarations) (equations : Equations) : Type 0 wher
   -- a term with an irreducible well-sorted instance is irreducible
   pub instances : (s : Substitution) → IsWellSorted d s → (t : Term) → IsIrreducible d equations (apply s t) → IsIrreducible d equations t
   -- an instance that a well-sorted substitution takes back is irreducible where the term is
-  pub taken_back : (r back : Substitution) → IsWellSorted d back → (t : Term) → TakesBack d back r t → IsIrreducible d equations t → IsIrreducible d equations (apply r t)
+  pub taken_back : (r back : Substitution) → IsWellSorted d back → (t : Term) → TakesBack d back r t →
+      IsIrreducible d equations t → IsIrreducible d equations (apply r t)
 
 -- sequences of terms keep to these laws, whatever the signature and the equations
 abbrev pub SequencesAreLawful : Type 0
@@ -58,7 +59,8 @@ pub record ListLaws (d : Declarations) (equations : Equations) : Type 0 where
   -- a list has a sequence exactly where its members have such whose lengths add up
   pub members : (k : ℕ) (ts us : List Term) → ListSequence d equations k ts us ↔ EachHasSequence d equations k ts us
   -- well-sorted instances of a sequence are sequences
-  pub instances : (s : Substitution) → IsWellSorted d s → (k : ℕ) (ts us : List Term) → ListSequence d equations k ts us → ListSequence d equations k (map (apply s) ts) (map (apply s) us)
+  pub instances : (s : Substitution) → IsWellSorted d s → (k : ℕ) (ts us : List Term) →
+      ListSequence d equations k ts us → ListSequence d equations k (map (apply s) ts) (map (apply s) us)
   -- from an irreducible list only the sequence without a step leads on
   pub ended : (k : ℕ) (ts us : List Term) → IsIrreducibleList d equations ts → ListSequence d equations k ts us → (k ≡ 0) × AllZip (BEqual d) ts us
 
@@ -71,11 +73,15 @@ pub record AgreementLaws (d : Declarations) (equations : Equations) : Type 0 whe
   -- a term has equal instances by substitutions that agree on it
   pub terms : (s c : Substitution) (t : Term) → AgreeOn d t s c → BEqual d (apply s t) (apply c t)
   -- a well-sorted substitution that agrees with a unifier on the problem is one
-  pub unifiers : (problem : Problem) (s c : Substitution) → IsUnifier d problem s → IsWellSorted d c → All (λ p. AgreeOn d p.0 s c × AgreeOn d p.1 s c) problem → IsUnifier d problem c
+  pub unifiers : (problem : Problem) (s c : Substitution) → IsUnifier d problem s → IsWellSorted d c →
+      All (λ p. AgreeOn d p.0 s c × AgreeOn d p.1 s c) problem → IsUnifier d problem c
   -- the same of variants, of bounds on sequences, and of covering
-  pub variants : (fixed ts us : List Term) (s c : Substitution) → IsVariant d equations fixed ts us s → IsWellSorted d c → AgreeOnAll d ts s c → AgreeOnAll d fixed s c → IsVariant d equations fixed ts us c
-  pub within : (most : ℕ) (ts : List Term) (s c : Substitution) → IsWithin d equations most ts s → AgreeOnAll d ts s c → IsWithin d equations most ts c
-  pub covered : (vars : List Var) (ts : List Term) (s : Substitution) (us : List Term) (c e : Substitution) → Covers d vars ts s us c → AgreeOnVariables d vars c e → Covers d vars ts s us e
+  pub variants : (fixed ts us : List Term) (s c : Substitution) → IsVariant d equations fixed ts us s →
+      IsWellSorted d c → AgreeOnAll d ts s c → AgreeOnAll d fixed s c → IsVariant d equations fixed ts us c
+  pub within : (most : ℕ) (ts : List Term) (s c : Substitution) → IsWithin d equations most ts s →
+      AgreeOnAll d ts s c → IsWithin d equations most ts c
+  pub covered : (vars : List Var) (ts : List Term) (s : Substitution) (us : List Term) (c e : Substitution) →
+      Covers d vars ts s us c → AgreeOnVariables d vars c e → Covers d vars ts s us e
   -- a variant whose terms and values are renamed is a variant
   pub renamed : (fixed ts us : List Term) (s r back : Substitution) → IsVariant d equations fixed ts us s → IsWellSorted d r → IsWellSorted d back →
       ((x : Var) → OccursInSome x ts → TakesBack d back r (s x)) → All (λ t. TakesBack d back r (apply s t)) fixed → All (TakesBack d back r) us →
@@ -104,20 +110,27 @@ KindedTheoriesAreLawful = (d : Declarations) → FitsKinds d → (equations : Eq
 
 -- in a good signature the shape of an instance is computed from the shapes of the values, whatever these are, where they keep kinds
 abbrev pub ShapesAreExact : Type 0
-ShapesAreExact = (d : Declarations) → IsGood d → (s : Substitution) → KeepsKinds d s → (t : Term) → IsTerm d t → shape_of d (canon d (apply s t)) ≡ shape_in d (λ x. shape_of d (canon d (s x))) t
+ShapesAreExact = (d : Declarations) → IsGood d → (s : Substitution) → KeepsKinds d s → (t : Term) →
+    IsTerm d t → shape_of d (canon d (apply s t)) ≡ shape_in d (λ x. shape_of d (canon d (s x))) t
 
 -- finitely many choices tell whether an equation loses a sort, and whether a term collapses
 pub record ChoiceLaws (d : Declarations) : Type 0 where
   -- an equation is sort-decreasing exactly where under each choice of sorts and identities its right side has a sort at or below that of its left side
   pub decreasing : (left right : Term) → HasOneKind d (left, right) → ((x : Var) → Occurs x right → Occurs x left) →
-      IsSortDecreasing d left right ↔ ((env : Var → Shape) → IsChoice (sort_choices d) left env → AtOrBelow d (shape_in d env right).sort (shape_in d env left).sort)
+      IsSortDecreasing d left right
+      ↔ ((env : Var → Shape) → IsChoice (sort_choices d) left env →
+      AtOrBelow d (shape_in d env right).sort (shape_in d env left).sort)
   -- a choice under which it has not makes an instance that loses a sort
   pub losing : (left right : Term) → HasOneKind d (left, right) → ((x : Var) → Occurs x right → Occurs x left) →
-      (env : Var → Shape) → IsChoice (sort_choices d) left env → (AtOrBelow d (shape_in d env right).sort (shape_in d env left).sort → ⊥) → IsLoss d left right
+      (env : Var → Shape) → IsChoice (sort_choices d) left env →
+      (AtOrBelow d (shape_in d env right).sort (shape_in d env left).sort → ⊥) → IsLoss d left right
   -- a term collapses to a variable exactly where some choice of identities gives it the shape of one
-  pub to_variable : (t : Term) → IsTerm d t → CollapsesToVariable d t ↔ ((env : Var → Shape) × IsChoice (identity_choices d) t env × ((shape_in d env t).root ≡ Variable))
+  pub to_variable : (t : Term) → IsTerm d t → CollapsesToVariable d t
+      ↔ ((env : Var → Shape) × IsChoice (identity_choices d) t env × ((shape_in d env t).root ≡ Variable))
   -- and to an identity exactly where one gives it the shape of an identity
-  pub to_identity : (t : Term) → IsTerm d t → CollapsesToIdentity d t ↔ ((env : Var → Shape) × IsChoice (identity_choices d) t env × ((e : OpId) × Contains (identities d) e × ((shape_in d env t).root ≡ Constant e)))
+  pub to_identity : (t : Term) → IsTerm d t → CollapsesToIdentity d t
+      ↔ ((env : Var → Shape) × IsChoice (identity_choices d) t env
+      × ((e : OpId) × Contains (identities d) e × ((shape_in d env t).root ≡ Constant e)))
 
 -- in a good signature with all that its queries need
 abbrev pub ChoicesAreEnough : Type 0
@@ -126,7 +139,8 @@ ChoicesAreEnough = (d : Declarations) → IsGood d → IsCompleted d → ChoiceL
 -- what holds of the rules that are made from equations: their identity instances, and the extensions of these
 pub record RuleLaws (d : Declarations) (equations : Equations) : Type 0 where
   -- a well-sorted instance of a rule is a step
-  pub steps : (l r : FlatTerm) → IsRuleOf d equations l r → (s : Substitution) → IsWellSorted d s → Rewrites d equations (apply s (plain l)) (apply s (plain r))
+  pub steps : (l r : FlatTerm) → IsRuleOf d equations l r → (s : Substitution) → IsWellSorted d s →
+      Rewrites d equations (apply s (plain l)) (apply s (plain r))
   -- the right side of a rule brings no variable, where those of the equations bring none
   pub variables : BringsNoVariable equations → (l r : FlatTerm) → IsRuleOf d equations l r → (x : Var) → Occurs x (plain r) → Occurs x (plain l)
   -- both sides of a rule have one kind

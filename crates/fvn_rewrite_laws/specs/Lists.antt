@@ -10,4 +10,5 @@ abbrev pub EachHasSequence : Declarations → Equations → ℕ → List Term �
 EachHasSequence d equations k [] [] = k ≡ 0
 EachHasSequence d equations k [] (u ∷ us) = ⊥
 EachHasSequence d equations k (t ∷ ts) [] = ⊥
-EachHasSequence d equations k (t ∷ ts) (u ∷ us) = (i : ℕ) × (j : ℕ) × (k ≡ i + j) × (TermSequence d equations i t u × EachHasSequence d equations j ts us)
+EachHasSequence d equations k (t ∷ ts) (u ∷ us) = (i : ℕ) × (j : ℕ) × (k ≡ i + j)
+    × (TermSequence d equations i t u × EachHasSequence d equations j ts us)

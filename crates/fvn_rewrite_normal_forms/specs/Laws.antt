@@ -23,16 +23,23 @@ pub record NormalFormLaws (d : Declarations) (equations : Equations) : Type 0 wh
   -- where the equations terminate, each well-kinded term has a normal form
   pub normal_forms : IsTerminating d equations → (t : Term) → IsTerm d t → HasNormalForm d equations t
   -- a list of well-kinded terms has one where its sequences are bounded
-  pub list_normal_forms : (most : ℕ) (ts : List Term) → All (IsTerm d) ts → ((k : ℕ) (us : List Term) → ListSequence d equations k ts us → k ≤ most) → HaveNormalForms d equations ts
+  pub list_normal_forms : (most : ℕ) (ts : List Term) → All (IsTerm d) ts →
+      ((k : ℕ) (us : List Term) → ListSequence d equations k ts us → k ≤ most) →
+      HaveNormalForms d equations ts
   -- where the equations terminate and are sort-decreasing, each well-sorted substitution is brought to one with irreducible values
-  pub normalised : IsTerminating d equations → AreSortDecreasing d equations → (s : Substitution) → IsWellSorted d s → (c : Substitution) × IsNormalisedFrom d equations s c
+  pub normalised : IsTerminating d equations → AreSortDecreasing d equations → (s : Substitution) →
+      IsWellSorted d s → (c : Substitution) × IsNormalisedFrom d equations s c
   -- which solves what the first solves in the theory
-  pub solutions : (s c : Substitution) → IsNormalisedFrom d equations s c → (problem : Problem) → IsTheoryUnifier d equations problem s → IsTheoryUnifier d equations problem c
+  pub solutions : (s c : Substitution) → IsNormalisedFrom d equations s c → (problem : Problem) →
+      IsTheoryUnifier d equations problem s → IsTheoryUnifier d equations problem c
   -- its instances have no longer sequences than those of the first
-  pub within : (s c : Substitution) → IsNormalisedFrom d equations s c → (most : ℕ) (ts : List Term) → IsWithin d equations most ts s → IsWithin d equations most ts c
+  pub within : (s c : Substitution) → IsNormalisedFrom d equations s c → (most : ℕ) (ts : List Term) →
+      IsWithin d equations most ts s → IsWithin d equations most ts c
   -- and a term whose instance by the first is irreducible keeps an irreducible one
-  pub stay : (s c : Substitution) → IsNormalisedFrom d equations s c → (t : Term) → IsIrreducible d equations (apply s t) → IsIrreducible d equations (apply c t)
+  pub stay : (s c : Substitution) → IsNormalisedFrom d equations s c → (t : Term) →
+      IsIrreducible d equations (apply s t) → IsIrreducible d equations (apply c t)
 
 -- in a good signature with all that its queries need, for admissible equations
 abbrev pub NormalFormsAreLawful : Type 0
-NormalFormsAreLawful = (d : Declarations) → IsGood d → IsCompleted d → (equations : Equations) → AreAdmissible d equations → NormalFormLaws d equations
+NormalFormsAreLawful = (d : Declarations) → IsGood d → IsCompleted d → (equations : Equations) →
+    AreAdmissible d equations → NormalFormLaws d equations

@@ -4,7 +4,7 @@ use Rattle.std.specs.Prelude.{◌↔◌, is_some, IfSome, IsTrue}
 use Rattle.fvn_terms.specs.declared.declarations.Declarations.{Declarations}
 use Rattle.fvn_terms.specs.Substitution.{Substitution}
 use Rattle.fvn_forms.specs.Flat.{FlatTerm, plain}
-use Rattle.fvn_flat.specs.Fits.{AllFit}
+use Rattle.fvn_flat.specs.Fits.{Fits, AllFit}
 use Rattle.fvn_flat.specs.Bindings.{Bindings}
 use Rattle.fvn_flat.specs.Solving.{substitution}
 use Rattle.fvn_match.specs.Matching.{IsMatcher, HasNoMatcher, Matches}
@@ -17,8 +17,11 @@ module _ (d : Declarations) where
   abbrev left_alone : Rule → List FlatTerm
   left_alone rule = rule.left ∷ []
 
+  pub rule_fits : (rule : Rule) → IsKindedRule d rule → Fits d rule.left
+  rule_fits rule h = record { flat = h.left; kinded = (h.kinds.kind, h.kinds.left) }
+
   pub left_fits : (rule : Rule) → IsKindedRule d rule → (ts : List FlatTerm) → ts ≡ rule.left ∷ [] → AllFit d ts
-  left_fits rule h ts e = rw e (record { flat = h.left; kinded = (h.kinds.kind, h.kinds.left) }, tt)
+  left_fits rule h ts e = rw e (rule_fits rule h, tt)
 
   module _ (rule other : Rule) where
     -- a matcher makes an instance
@@ -28,6 +31,10 @@ module _ (d : Declarations) where
     -- without one there is no instance
     no_instance : HasNoMatcher d (left_alone rule) (left_alone other) → HasInstance d rule other.left → ⊥
     no_instance nothing h = nothing h.by (h.well_sorted, (h.left, tt))
+
+    -- nor where heads tell so
+    pub refused : HasNoMatcher d (left_alone rule) (left_alone other) → IsTrue false ↔ HasInstance d rule other.left
+    refused nothing = (λ t. (let q : true ≡ false = sym t in cc), λ h. absurd (no_instance nothing h))
 
     -- what is found tells whether there is one
     pub told : (ps ts : List FlatTerm) → ps ≡ rule.left ∷ [] → ts ≡ other.left ∷ [] → (o : Option Bindings) (b : Bool) → b ≡ is_some o →

@@ -6,18 +6,23 @@ ghost use Rattle.fvn_rewrite_rules.specs.inner.Heads.{HasAsInstance, ServesAs, S
 
 use crate::rule::Rule;
 use fvn_base::Seq;
-use fvn_match::matches;
+use fvn_match::{matches, may_match};
 use fvn_signature::Signature;
 use fvn_terms::{NoMemory, OpId};
 use std::alloc::Global;
 use std::slice::from_ref;
 
-// Whether a substitution makes the left side of a rule that of another.
+// Whether a substitution makes the left side of a rule that of another. Where heads tell that none does, nothing is
+// matched.
 fn has_instance(alloc: Global, sig: &Signature, rule: &Rule, other: &Rule) -> Result<bool, NoMemory>
     requires rule { IsKindedRule sig.now rule.now }
     requires other { IsKindedRule sig.now other.now }
     ensures { IfOk result (λ b. IsTrue b ↔ HasAsInstance sig.now rule.now other.now) }
 {
+    let open = may_match(sig, &rule.left, &other.left);
+    if !open {
+        return Ok(false);
+    }
     let found = matches(alloc, sig, from_ref(&rule.left), from_ref(&other.left))?;
     let is = found.is_some();
     Ok(is)

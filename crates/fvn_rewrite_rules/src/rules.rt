@@ -31,6 +31,7 @@ impl Model for Rules {
     ghost view = { λ r. record { equations = r.equations.items; rules = r.rules.items; table = r.table.items } };
 }
 
+// Takes only what may be sent to and shared between threads.
 fn shared<T: Send + Sync>(_value: &T) {}
 
 /// Rules may be sent to and shared between threads.

@@ -127,10 +127,3 @@ module _ (d : Declarations) where
 
       pub direct_subsorts_of_kind : (s : SortId) → Contains (direct_subsorts d k) s ↔ IsMaximalOf d k s
       direct_subsorts_of_kind s = (λ h. direct_is_maximal s (listed-Direct k s h), λ most. Direct-listed k s (maximal_is_direct s most))
-
-      -- each kind has a maximal sort
-      pub some_maximal : (s : SortId) × IsMaximalOf d k s
-      some_maximal =
-          let w = whole.sort_of_kind k is in
-          let r = (direct_subsorts_cover k w.0 w.1.0).0 (below_kind w.0 w.1.0 w.1.1) in
-          (r.0, (direct_subsorts_of_kind r.0).0 r.1.0)

@@ -12,8 +12,10 @@ DirectSubsortsAreListed = (d : Declarations) (s t : SortId) → Contains (direct
 
 -- in a good signature a declared sort is below another one exactly where it is at or below one of the direct subsorts of that
 abbrev pub DirectSubsortsCover : Type 0
-DirectSubsortsCover = (d : Declarations) → IsGood d → (s t : SortId) → t.0 < d.sorts → IsBelow d t s ↔ ((u : SortId) × (Contains (direct_subsorts d s) u × AtOrBelow d t u))
+DirectSubsortsCover = (d : Declarations) → IsGood d → (s t : SortId) → t.0 < d.sorts →
+    IsBelow d t s ↔ ((u : SortId) × (Contains (direct_subsorts d s) u × AtOrBelow d t u))
 
 -- in a good and completed signature the direct subsorts of a kind are its maximal sorts
 abbrev pub DirectSubsortsOfKinds : Type 0
-DirectSubsortsOfKinds = (d : Declarations) → IsGood d → IsCompleted d → (k s : SortId) → IsKind d k → Contains (direct_subsorts d k) s ↔ IsMaximalOf d k s
+DirectSubsortsOfKinds = (d : Declarations) → IsGood d → IsCompleted d → (k s : SortId) → IsKind d k →
+    Contains (direct_subsorts d k) s ↔ IsMaximalOf d k s

@@ -35,10 +35,6 @@ module _ (d : Declarations) where
     pub of_kind : kind d s ≡ k
     pub maximal : (q : SortId) → Contains d.below (s, q) → ⊥
 
-  -- s is the first of the maximal sorts of the kind
-  abbrev pub IsTop : SortId → SortId → Type 0
-  IsTop k s = IsMaximalOf k s × ((q : SortId) → q.0 < s.0 → IsMaximalOf k q → ⊥)
-
   -- s is below q, and another sort
   abbrev pub IsBelow : SortId → SortId → Type 0
   IsBelow s q = AtOrBelow d s q × (s ≡ q → ⊥)

@@ -174,7 +174,8 @@ impl Draft {
 
     /// The kind of what an operator's first declaration gives; of one without declarations sort 0.
     pub(crate) fn first_kind(&self, op: OpId) -> SortId
-        ensures { result ≡ first_result self.now.declarations (declared self.now.declarations op).ranks }
+        ensures { result ≡ first_result self.now.declarations
+            (declared self.now.declarations op).ranks }
     {
         match self.declarations.declared(op) {
             Some(declared) => match declared.ranks.as_slice().first() {
@@ -208,7 +209,8 @@ impl Draft {
 
     /// The least sort to which the operator takes two arguments of these sorts, where a table has it.
     fn tabled(&self, op: OpId, first: SortId, second: SortId) -> Option<SortId>
-        ensures { IfSome result (λ s. s ≡ least_result self.now.declarations op (first ∷ second ∷ [])) }
+        ensures { IfSome result (λ s.
+            s ≡ least_result self.now.declarations op (first ∷ second ∷ [])) }
     {
         match self.tables.get(usize::from(op.0)) {
             Some(rows) => match rows.as_slice().get(usize::from(first.0)) {

@@ -8,4 +8,5 @@ use Rattle.fvn_signature_draft.specs.Collected.{completed}
 
 -- two declared sorts of what was collected have one kind exactly where the order joins them
 abbrev pub KindsAreComponents : Type 0
-KindsAreComponents = (c : Collected) (s q : SortId) → s.0 < c.sorts → q.0 < c.sorts → (kind (completed c) s ≡ kind (completed c) q) ↔ Joined c.below s q
+KindsAreComponents = (c : Collected) (s q : SortId) → s.0 < c.sorts → q.0 < c.sorts →
+    (kind (completed c) s ≡ kind (completed c) q) ↔ Joined c.below s q

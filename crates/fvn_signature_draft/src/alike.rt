@@ -4,6 +4,7 @@ ghost use Rattle.fvn_signature_draft.specs.Alike.{AreAlike, HasEarlierAlike};
 
 use fvn_terms::{Declarations, OpId, Rank, SortId};
 
+// Whether the two lists of sorts are one.
 fn same_sorts(some: &[SortId], others: &[SortId]) -> bool
     ensures { IsTrue result → some.now ≡ others.now }
 {
@@ -25,6 +26,7 @@ pub fn same_rank(one: &Rank, other: &Rank) -> bool
     one.result == other.result && same_sorts(one.args.as_slice(), other.args.as_slice())
 }
 
+// Whether the two lists of ranks are one.
 fn same_ranks(some: &[Rank], others: &[Rank]) -> bool
     ensures { IsTrue result → some.now ≡ others.now }
 {
@@ -39,6 +41,7 @@ fn same_ranks(some: &[Rank], others: &[Rank]) -> bool
     true
 }
 
+// Whether the two operators have the same axioms and ranks.
 fn are_alike(declarations: &Declarations, one: OpId, other: OpId) -> bool
     ensures { IsTrue result → AreAlike declarations.now one other }
 {

@@ -34,7 +34,8 @@ fn single_bits(alloc: Global, sorts: u16) -> Result<Vec<u64>, NoMemory>
 fn gain(words: &mut Vec<u64>, low: u16, high: usize)
     requires low { low < 64 }
     requires high { high < length words.old.items }
-    ensures { words.new.items ≡ map (gaining low (slice_index_or words.old.items high 0)) words.old.items }
+    ensures { words.new.items ≡ map (gaining low (slice_index_or words.old.items high 0))
+        words.old.items }
 {
     let gained = words[high];
     for word in words.iter_mut() {

@@ -92,7 +92,8 @@ fn operator(
     op: OpId,
 ) -> Result<OpDecl, NoMemory>
     requires { list.now ≡ kinds collected.now }
-    ensures { IfOk result (λ o. o ≡ operator_meant collected.now (declarations_of collected.now op)) }
+    ensures { IfOk result (λ o.
+        o ≡ operator_meant collected.now (declarations_of collected.now op)) }
 {
     let mut ranks = Vec::new(alloc);
     for declaration in collected.declarations.as_slice() {

@@ -44,6 +44,7 @@ fn first_joined(collected: &Collected, word: u64, s: u16) -> u16
     s
 }
 
+// The kind of each declared sort, and the next number of a kind.
 fn sort_kinds(alloc: Global, collected: &Collected, joined: &[u64]) -> Result<SortKinds, NoMemory>
     requires few { collected.now.sorts ≤ SORTS }
     requires joined { IsClosure collected.now.sorts (both_ways collected.now.below) joined.now }

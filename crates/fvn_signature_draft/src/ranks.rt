@@ -39,7 +39,8 @@ fn add_kind_ranks(
     ranks: &[Rank],
     list: Vec<Rank>,
 ) -> Result<Vec<Rank>, NoMemory>
-    ensures { IfOk result (λ v. v.items ≡ list.items ++ map (kind_rank declarations.now) ranks.now) }
+    ensures { IfOk result (λ v.
+        v.items ≡ list.items ++ map (kind_rank declarations.now) ranks.now) }
 {
     let mut all = list;
     for rank in ranks {
@@ -112,7 +113,8 @@ pub fn all_ranks(
     operators: u16,
 ) -> Result<Vec<Seq<Rank>>, NoMemory>
     requires { length declarations.now.ops ≡ operators }
-    ensures { IfOk result (λ v. (f : OpId) → slice_index_or v.items f.0 [] ≡ ranks_of declarations.now f) }
+    ensures { IfOk result (λ v. (f : OpId)
+        → slice_index_or v.items f.0 [] ≡ ranks_of declarations.now f) }
 {
     let mut all = Vec::new(alloc);
     for op in 0..operators {

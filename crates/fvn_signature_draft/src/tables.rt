@@ -32,6 +32,7 @@ fn row(
     Ok(list)
 }
 
+/// The results over each two sorts, a row for each first one.
 fn rows(
     alloc: Global,
     draft: &Draft,
@@ -39,7 +40,8 @@ fn rows(
     ranks: &[Rank],
 ) -> Result<Vec<Seq<SortId>>, NoMemory>
     requires { FindAlike ranks.now (ranks_of draft.now.declarations op) }
-    ensures { IfOk result (λ v. v.items ≡ results_of_two draft.now.declarations op draft.now.total) }
+    ensures { IfOk result (λ v.
+        v.items ≡ results_of_two draft.now.declarations op draft.now.total) }
 {
     let mut list = Vec::with_capacity(alloc, usize::from(draft.total))?;
     for s in 0..draft.total {
@@ -48,6 +50,7 @@ fn rows(
     Ok(list)
 }
 
+/// Whether the operator takes two arguments, by its first rank.
 fn takes_two(ranks: &[Rank]) -> bool {
     match ranks.first() {
         Some(rank) => rank.args.len() == 2,

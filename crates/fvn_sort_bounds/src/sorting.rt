@@ -20,6 +20,7 @@ struct Sorted {
     constant: Option<OpId>,
 }
 
+// Whether there are both, and they are one.
 fn is_identity(identity: Option<OpId>, constant: Option<OpId>) -> bool
     ensures { IsTrue result ↔ ((e : OpId) × (identity ≡ Some e) × (constant ≡ Some e)) }
 {
@@ -32,6 +33,7 @@ fn is_identity(identity: Option<OpId>, constant: Option<OpId>) -> bool
     }
 }
 
+// The least sort of the term, and the constant that its flat form is, if it is one.
 #[cycle(least)]
 fn sort_term(signature: &Signature, t: &Plain) -> Sorted
     requires term { IsTerm signature.now (term t.now) }
@@ -53,6 +55,7 @@ fn sort_term(signature: &Signature, t: &Plain) -> Sorted
     }
 }
 
+// The same of a sum: where a side is the identity, that of the other.
 #[cycle(least)]
 fn sort_sum(signature: &Signature, f: OpId, us: &Args) -> Sorted
     requires term { IsTerm signature.now (app f us.now) }
@@ -76,6 +79,7 @@ fn sort_sum(signature: &Signature, f: OpId, us: &Args) -> Sorted
     }
 }
 
+// The same of an operator that is no sum.
 #[cycle(least)]
 fn sort_plain(signature: &Signature, f: OpId, us: &Args) -> Sorted
     requires term { IsTerm signature.now (app f us.now) }

@@ -29,7 +29,8 @@ impl<'s> Scope<'s> {
     /// These declarations and names.
     pub fn new(declarations: &'s Declarations, names: &'s Names, guarded: bool) -> Scope<'s>
         requires { IsNumbered names.now }
-        ensures { result ≡ record { declarations = declarations.now; names = names.now; guarded = guarded } }
+        ensures { result
+            ≡ record { declarations = declarations.now; names = names.now; guarded = guarded } }
     {
         Scope {
             declarations,

@@ -66,8 +66,10 @@ module _ (d : Declarations) where
   pub data IsAxiom : Term → Term → Type 0 where
     swap : {f : OpId} {t u : Term} → IsCommutative (axioms d f) → IsAxiom (two f t u) (two f u t)
     shift : {f : OpId} {t u v : Term} → IsAssociative (axioms d f) → IsAxiom (two f (two f t u) v) (two f t (two f u v))
-    right_identity : {f e : OpId} {t : Term} {k : SortId} → identity (axioms d f) ≡ Some e → HasKind d t k → HasKind d (two f t (constant e)) k → IsAxiom (two f t (constant e)) t
-    left_identity : {f e : OpId} {t : Term} {k : SortId} → identity (axioms d f) ≡ Some e → HasKind d t k → HasKind d (two f (constant e) t) k → IsAxiom (two f (constant e) t) t
+    right_identity : {f e : OpId} {t : Term} {k : SortId} → identity (axioms d f) ≡ Some e → HasKind d t k →
+        HasKind d (two f t (constant e)) k → IsAxiom (two f t (constant e)) t
+    left_identity : {f e : OpId} {t : Term} {k : SortId} → identity (axioms d f) ≡ Some e → HasKind d t k →
+        HasKind d (two f (constant e) t) k → IsAxiom (two f (constant e) t) t
 
   -- an axiom in either direction
   abbrev pub IsAxiomEitherWay : Term → Term → Type 0

@@ -42,7 +42,8 @@ EqualityIsKeptBySubstitution = (d : Declarations) (s : Substitution) → KeepsKi
 
 -- what follows a unifier is a unifier
 abbrev pub WhatFollowsAUnifierIsAUnifier : Type 0
-WhatFollowsAUnifierIsAUnifier = (d : Declarations) (problem : Problem) (s c : Substitution) → IsUnifier d problem s → IsWellSorted d c → IsUnifier d problem (followed_by s c)
+WhatFollowsAUnifierIsAUnifier = (d : Declarations) (problem : Problem) (s c : Substitution) →
+    IsUnifier d problem s → IsWellSorted d c → IsUnifier d problem (followed_by s c)
 
 -- no operator has axioms
 abbrev pub IsFree : Declarations → Type 0
@@ -58,7 +59,8 @@ pub record TheoryLaws (d : Declarations) (equations : Equations) : Type 0 where
   pub congruence : IsCongruence (TEqual d equations)
   pub modulo : (t u : Term) → BEqual d t u → TEqual d equations t u
   pub substitution : (s : Substitution) → IsWellSorted d s → (t u : Term) → TEqual d equations t u → TEqual d equations (apply s t) (apply s u)
-  pub follows : (problem : Problem) (s c : Substitution) → IsTheoryUnifier d equations problem s → IsWellSorted d c → IsTheoryUnifier d equations problem (followed_by s c)
+  pub follows : (problem : Problem) (s c : Substitution) → IsTheoryUnifier d equations problem s →
+      IsWellSorted d c → IsTheoryUnifier d equations problem (followed_by s c)
   pub instances : (vars : List Var) (a b : Substitution) → IsInstance d vars a b → IsTheoryInstance d equations vars a b
 
 -- equality in the theory is an equivalence and a congruence, contains equality modulo the axioms and its instances, and is kept by well-sorted substitutions
@@ -68,7 +70,8 @@ TheoryEqualityIsLawful = (d : Declarations) (equations : Equations) → TheoryLa
 -- an instance of an instance is one, modulo the axioms and in a theory
 pub record InstancesChain (d : Declarations) (equations : Equations) (vars : List Var) : Type 0 where
   pub modulo : (a b c : Substitution) → IsInstance d vars a b → IsInstance d vars b c → IsInstance d vars a c
-  pub theory : (a b c : Substitution) → IsTheoryInstance d equations vars a b → IsTheoryInstance d equations vars b c → IsTheoryInstance d equations vars a c
+  pub theory : (a b c : Substitution) → IsTheoryInstance d equations vars a b →
+      IsTheoryInstance d equations vars b c → IsTheoryInstance d equations vars a c
 
 -- instances of instances are instances
 abbrev pub InstancesAreTransitive : Type 0
@@ -98,27 +101,34 @@ pub record RewritingLaws (d : Declarations) (equations : Equations) : Type 0 whe
   -- a term is reducible where what stands at one of its variables is
   pub reducible : (s : Substitution) (t : Term) (x : Var) → Occurs x t → IsReducible d equations (s x) → IsReducible d equations (apply s t)
   -- where each equation is sort-decreasing, what an instance of a left side is replaced by has all its sorts
-  pub sorts : ((left right : Term) → Contains equations (left, right) → IsSortDecreasing d left right) → (t u : Term) → IsRule d equations t u → (q : SortId) → HasSort d t q → HasSort d u q
+  pub sorts : ((left right : Term) → Contains equations (left, right) → IsSortDecreasing d left right) →
+      (t u : Term) → IsRule d equations t u → (q : SortId) → HasSort d t q → HasSort d u q
   -- a sequence stays within the theory
   pub theory : (k : ℕ) (t u : Term) → TermSequence d equations k t u → TEqual d equations t u
   -- a list is irreducible where each member is
   pub lists : (ts : List Term) → IsIrreducibleList d equations ts ↔ All (IsIrreducible d equations) ts
   -- instances of a sequence are sequences
-  pub sequences : (s : Substitution) → IsWellSorted d s → (k : ℕ) (t u : Term) → TermSequence d equations k t u → TermSequence d equations k (apply s t) (apply s u)
+  pub sequences : (s : Substitution) → IsWellSorted d s → (k : ℕ) (t u : Term) →
+      TermSequence d equations k t u → TermSequence d equations k (apply s t) (apply s u)
   -- two sequences of lists in a row are one
-  pub list_joined : (j k : ℕ) (ts us vs : List Term) → ListSequence d equations j ts us → ListSequence d equations k us vs → ListSequence d equations (j + k) ts vs
+  pub list_joined : (j k : ℕ) (ts us vs : List Term) → ListSequence d equations j ts us →
+      ListSequence d equations k us vs → ListSequence d equations (j + k) ts vs
   -- sequences bring no new variable, where the equations' right sides have none
   pub variables : BringsNoVariable equations → (x : Var) (k : ℕ) (t u : Term) → TermSequence d equations k t u → Occurs x u → Occurs x t
   -- where the equations terminate, sequences of a list are bounded
-  pub bounded : IsTerminating d equations → (ts : List Term) → All (IsTerm d) ts → (most : ℕ) × ((k : ℕ) (us : List Term) → ListSequence d equations k ts us → k ≤ most)
+  pub bounded : IsTerminating d equations → (ts : List Term) → All (IsTerm d) ts →
+      (most : ℕ) × ((k : ℕ) (us : List Term) → ListSequence d equations k ts us → k ≤ most)
   -- where the equations are confluent, irreducible terms that one term is brought to are equal modulo the axioms
-  pub one_normal_form : IsConfluent d equations → (t u v : Term) (j k : ℕ) → IsTerm d t → TermSequence d equations j t u → TermSequence d equations k t v →
+  pub one_normal_form : IsConfluent d equations → (t u v : Term) (j k : ℕ) → IsTerm d t →
+      TermSequence d equations j t u → TermSequence d equations k t v →
       IsIrreducible d equations u → IsIrreducible d equations v → BEqual d u v
   -- what bounds the sequences of an instance bounds the steps to its variants, and leaves that much less behind them
-  pub within : (most : ℕ) (terms us : List Term) (s : Substitution) (k : ℕ) → IsWithin d equations most terms s → ListSequence d equations k (map (apply s) terms) us →
+  pub within : (most : ℕ) (terms us : List Term) (s : Substitution) (k : ℕ) →
+      IsWithin d equations most terms s → ListSequence d equations k (map (apply s) terms) us →
       (j : ℕ) (vs : List Term) → ListSequence d equations j us vs → k + j ≤ most
   -- the terms of a variant are equal in the theory to the instance that its substitution makes
-  pub variants : (fixed terms us : List Term) (s : Substitution) → IsVariant d equations fixed terms us s → AllZip (TEqual d equations) (map (apply s) terms) us
+  pub variants : (fixed terms us : List Term) (s : Substitution) → IsVariant d equations fixed terms us s →
+      AllZip (TEqual d equations) (map (apply s) terms) us
 
 -- rewriting modulo the axioms keeps to these laws, whatever the signature and the equations
 abbrev pub RewritingIsLawful : Type 0

@@ -16,7 +16,8 @@ module _ (d : Declarations) where
   -- f takes arguments of these sorts to this sort
   pub data HasRank (f : OpId) : List SortId → SortId → Type 0 where
     is_declared : {ss : List SortId} {s : SortId} → (r : Rank) → Contains (declared d f).ranks r → r.args ≡ ss → r.result ≡ s → HasRank f ss s
-    on_kinds : {ss : List SortId} {s : SortId} → (r : Rank) → Contains (declared d f).ranks r → map (kind d) r.args ≡ ss → kind d r.result ≡ s → HasRank f ss s
+    on_kinds : {ss : List SortId} {s : SortId} → (r : Rank) → Contains (declared d f).ranks r →
+        map (kind d) r.args ≡ ss → kind d r.result ≡ s → HasRank f ss s
     swapped : {s q r : SortId} → IsCommutative (axioms d f) → HasRank f (s ∷ q ∷ []) r → HasRank f (q ∷ s ∷ []) r
 
   -- some sort that is got is s or below it

@@ -98,7 +98,8 @@ impl Declarations {
 
     /// What is declared of an operator; nothing for a number that is no operator.
     pub fn declared(&self, f: OpId) -> Option<&OpDecl>
-        ensures { MatchOption result (declared self.now f ≡ unknown) (λ o. o.now ≡ declared self.now f) }
+        ensures { MatchOption result (declared self.now f ≡ unknown) (λ o.
+            o.now ≡ declared self.now f) }
     {
         self.ops.as_slice().get(usize::from(f.0))
     }

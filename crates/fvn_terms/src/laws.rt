@@ -66,6 +66,7 @@ pub fn covering_is_reflexive_and_transitive()
     ensures { CoveringIsReflexiveAndTransitive }
 {}
 
+// Takes only what may be sent to and shared between threads.
 fn shared<T: Send + Sync>(_value: &T) {}
 
 /// Terms, substitutions and declarations may be shared between threads.

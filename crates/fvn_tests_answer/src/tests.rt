@@ -189,6 +189,7 @@ fn told(alloc: Global, module: &Module, row: &str) -> Result<Vec<u8>, NoMemory> 
     Ok(line)
 }
 
+// The line of a row is what the row says.
 fn row_is_told(rt: &impl Abort, alloc: Global, module: &Module, row: &str) -> Result<(), NoMemory> {
     let (text, want) = row.split_once(" => ").unwrap_or((row, ""));
     let line = told(alloc, module, text)?;
@@ -196,6 +197,7 @@ fn row_is_told(rt: &impl Abort, alloc: Global, module: &Module, row: &str) -> Re
     Ok(())
 }
 
+// The same of each row.
 fn rows_are_told(
     rt: &impl Abort,
     alloc: Global,
@@ -208,12 +210,14 @@ fn rows_are_told(
     Ok(())
 }
 
+// The rows of a block, over the module of its first line.
 fn block_is_told(rt: &impl Abort, alloc: Global, block: &str) -> Result<(), NoMemory> {
     let (statements, rows) = block.split_once('\n').unwrap_or((block, ""));
     let module = module_of(rt, alloc, statements)?;
     rows_are_told(rt, alloc, &module, rows)
 }
 
+// The same of each block.
 fn blocks_are_told(rt: &impl Abort, alloc: Global, blocks: &str) -> Result<(), NoMemory> {
     for block in blocks.split("\n\n") {
         block_is_told(rt, alloc, block)?;
@@ -226,6 +230,7 @@ fn bindings_have_lines(rt: HostRuntime) -> Result<(), NoMemory> {
     blocks_are_told(&rt, rt.alloc(), LINES)
 }
 
+// The answer of a row is what the row says.
 fn answer_is_told(
     rt: &impl Abort,
     alloc: Global,
@@ -239,6 +244,7 @@ fn answer_is_told(
     Ok(())
 }
 
+// The same of each row, over a module.
 fn answers_are_told(
     rt: &impl Abort,
     alloc: Global,

@@ -65,7 +65,8 @@ fn pair_of(alloc: Global, sig: &Signature, text: &str) -> Result<Option<(Flat, F
 
 /// The problem that is written; none where a term is not well-kinded.
 pub fn problem_of(alloc: Global, sig: &Signature, text: &str) -> Result<Option<Pairs>, NoMemory>
-    ensures { IfOk result (λ o. IfSome o (λ p. All (λ q. Fits sig.now q.0 × Fits sig.now q.1) p.pairs)) }
+    ensures { IfOk result (λ o. IfSome o (λ p.
+        All (λ q. Fits sig.now q.0 × Fits sig.now q.1) p.pairs)) }
 {
     let mut pairs = Vec::new(alloc);
     for pair in text.split("; ") {
@@ -81,7 +82,8 @@ pub fn problem_of(alloc: Global, sig: &Signature, text: &str) -> Result<Option<P
 
 /// Whether the term has the kind of the first sort.
 fn is_side(alloc: Global, sig: &Signature, t: &Flat) -> Result<bool, NoMemory>
-    ensures { IfOk result (λ r. IsTrue r → HasKind sig.now (plain t.now) (kind sig.now (record { 0 = 0 }))) }
+    ensures { IfOk result (λ r. IsTrue r →
+        HasKind sig.now (plain t.now) (kind sig.now (record { 0 = 0 }))) }
 {
     let u = t.to_plain(alloc)?;
     let found = has_kind(sig, &u, sig.kind(SortId(0)));

@@ -3,6 +3,7 @@ use fvn_flat::Flat;
 use fvn_signature::Signature;
 use fvn_terms::{NoMemory, SortId, Var};
 
+/// The letter so many places behind the first one, which twenty letters take in turn.
 fn push_letter(out: &mut String, first: u8, number: u16) -> Result<(), NoMemory> {
     out.push(char::from(first.wrapping_add((number % 20) as u8)))?;
     Ok(())
@@ -13,6 +14,7 @@ pub fn push_sort(out: &mut String, s: SortId) -> Result<(), NoMemory> {
     push_letter(out, b'A', s.0)
 }
 
+/// A variable is the letter of its sort and the last digit of its name, behind `#` where it is new.
 fn push_var(out: &mut String, x: &Var) -> Result<(), NoMemory> {
     if x.fresh {
         out.push_str("#")?;

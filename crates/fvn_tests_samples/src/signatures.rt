@@ -19,6 +19,7 @@ const MOST_OPERATORS: u16 = 1000;
 /// More sorts than a signature has.
 const MOST_SORTS: u16 = 100;
 
+/// Whether the sort is declared, or the kind of one that is.
 fn names(sorts: u16, s: SortId) -> bool
     ensures { IsTrue result → Names sorts s }
 {
@@ -28,6 +29,7 @@ fn names(sorts: u16, s: SortId) -> bool
     s.0 >= FIRST_KIND && s.0 - FIRST_KIND < sorts
 }
 
+/// Whether each of the sorts is.
 fn all_names(sorts: u16, list: &[SortId]) -> bool
     ensures { IsTrue result → All (Names sorts) list.now }
 {
@@ -60,6 +62,7 @@ pub fn operator_of(word: &str) -> OpId {
     OpId(number(word, b'f'))
 }
 
+/// The axioms that attributes tell.
 fn axioms_of(text: &str) -> Axioms {
     if let Some((_, identity)) = text.split_once("id: ") {
         return Axioms::AssocCommId(operator_of(identity));
@@ -114,7 +117,7 @@ fn may_declare(builder: &SignatureBuilder, op: OpId, rank: &Rank) -> bool
 }
 
 /// One more declaration, as `A B -> C [comm]`; none where it names what is not declared.
-pub fn with_operator(
+fn with_operator(
     alloc: Global,
     builder: SignatureBuilder,
     op: OpId,
@@ -130,6 +133,7 @@ pub fn with_operator(
     Ok(Some(more))
 }
 
+/// One more pair of the order; none where a sort is not declared.
 fn with_pair(
     builder: SignatureBuilder,
     low: SortId,
@@ -147,7 +151,7 @@ fn with_pair(
 }
 
 /// So many sorts more; none where they are over a hundred.
-pub fn with_sorts(
+fn with_sorts(
     builder: SignatureBuilder,
     count: usize,
 ) -> Result<Option<SignatureBuilder>, NoMemory> {
@@ -177,7 +181,7 @@ fn stated(
 }
 
 /// What the statements of the text give; none where one names what is not declared.
-pub fn collected(alloc: Global, text: &str) -> Result<Option<SignatureBuilder>, NoMemory> {
+fn collected(alloc: Global, text: &str) -> Result<Option<SignatureBuilder>, NoMemory> {
     let mut builder = SignatureBuilder::new(alloc);
     for statement in text.split("; ") {
         builder = match stated(alloc, builder, statement)? {

@@ -33,6 +33,7 @@ fn with_pair(
     }
 }
 
+/// The substitution that binds nothing.
 fn nothing(alloc: Global, sig: &Signature) -> Subst
     ensures { BindingsFit sig.now result }
 {

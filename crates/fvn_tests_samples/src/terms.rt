@@ -10,6 +10,7 @@ use fvn_signature::Signature;
 use fvn_terms::{Args, NoMemory, OpId, Plain, Rank, SortId, Var};
 use std::alloc::Global;
 
+/// The first declaration of an operator.
 fn first_rank<'a>(sig: &'a Signature, op: OpId) -> Option<&'a Rank>
     ensures { IfSome result (λ r. Contains (declared sig.now op).ranks r.now) }
 {
@@ -23,6 +24,7 @@ pub fn is_sort(sig: &Signature, s: SortId) -> bool
     usize::from(s.0) < sig.declarations().kinds.as_slice().len()
 }
 
+/// Whether the sort is one of the kind.
 fn is_of_kind(sig: &Signature, s: SortId, k: SortId) -> bool
     ensures { IsTrue result → (IsSort sig.now s × (kind sig.now s ≡ k)) }
 {
@@ -65,7 +67,7 @@ fn have_kinds(sig: &Signature, us: &Args, list: &[SortId]) -> bool
 }
 
 /// The kind of a term, where it is well-kinded.
-pub fn kind_of(sig: &Signature, t: &Plain) -> SortId {
+fn kind_of(sig: &Signature, t: &Plain) -> SortId {
     match t {
         Plain::Var(x) => sig.kind(x.sort),
         Plain::App(f, _) => match first_rank(sig, *f) {

@@ -76,11 +76,13 @@ work 2 --steps 4 => none
 work two => none
 module => none";
 
+// A text.
 fn say(out: &mut String, text: &str) -> Result<(), NoMemory> {
     out.push_str(text)?;
     Ok(())
 }
 
+// Bytes, each as a letter.
 fn say_bytes(out: &mut String, bytes: &[u8]) -> Result<(), NoMemory> {
     for byte in bytes {
         out.push(char::from(*byte))?;
@@ -88,11 +90,13 @@ fn say_bytes(out: &mut String, bytes: &[u8]) -> Result<(), NoMemory> {
     Ok(())
 }
 
+// A number behind a space.
 fn say_number(out: &mut String, alloc: Global, n: u64) -> Result<(), NoMemory> {
     let text = format!(in alloc; " {n}")?;
     say(out, text.as_str())
 }
 
+// The numbers of an exploration.
 fn say_reach(out: &mut String, alloc: Global, reach: Reach, workers: u64) -> Result<(), NoMemory> {
     say_number(out, alloc, u64::from(reach.levels))?;
     say_number(out, alloc, u64::from(reach.variants))?;
@@ -100,6 +104,7 @@ fn say_reach(out: &mut String, alloc: Global, reach: Reach, workers: u64) -> Res
     say_number(out, alloc, workers)
 }
 
+// A word, and the numbers of an exploration.
 fn say_search(
     out: &mut String,
     alloc: Global,
@@ -111,6 +116,7 @@ fn say_search(
     say_reach(out, alloc, reach, workers)
 }
 
+// A problem, bindings and a number of steps.
 fn say_verify(
     out: &mut String,
     alloc: Global,
@@ -124,6 +130,7 @@ fn say_verify(
     say_number(out, alloc, steps)
 }
 
+// The word for a command.
 fn name(command: Command<'_>) -> &'static str {
     match command {
         Command::Check => "check",
@@ -136,6 +143,7 @@ fn name(command: Command<'_>) -> &'static str {
     }
 }
 
+// A command with its words and numbers.
 fn say_command(out: &mut String, alloc: Global, command: Command<'_>) -> Result<(), NoMemory> {
     say(out, name(command))?;
     match command {
@@ -151,6 +159,7 @@ fn say_command(out: &mut String, alloc: Global, command: Command<'_>) -> Result<
     }
 }
 
+// The words of a line.
 fn words_of(alloc: Global, text: &str) -> Result<Vec<String>, NoMemory> {
     let mut words = Vec::new(alloc);
     for piece in text.split(' ') {
@@ -161,6 +170,7 @@ fn words_of(alloc: Global, text: &str) -> Result<Vec<String>, NoMemory> {
     Ok(words)
 }
 
+// The command that the words are, or `none`.
 fn told(alloc: Global, words: &[String]) -> Result<String, NoMemory> {
     let mut out = String::new(alloc);
     match read_command(words) {
@@ -170,6 +180,7 @@ fn told(alloc: Global, words: &[String]) -> Result<String, NoMemory> {
     Ok(out)
 }
 
+// What the words of a row are is what the row says.
 fn assert_row(rt: &impl Abort, alloc: Global, line: &str) -> Result<(), NoMemory> {
     let (asked, want) = line.split_once(" => ").unwrap_or((line, ""));
     let words = words_of(alloc, asked)?;

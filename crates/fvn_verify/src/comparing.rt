@@ -105,7 +105,8 @@ fn compare_right(
     requires keeps { KeepsKinds rewriter.now.signature (value bindings.now.pairs) }
     requires kinded { AreKinded rewriter.now.signature pair.now }
     requires limited { rewriter.now.bounds.size < u64.MAX }
-    requires start { IsFlatForm (under rewriter.now (value bindings.now.pairs)) pair.now.0 start.now }
+    requires start { IsFlatForm (under rewriter.now (value bindings.now.pairs)) pair.now.0
+        start.now }
     requires left { IsFormOf (under rewriter.now (value bindings.now.pairs)) pair.now.0 left }
     ensures { IfOk result (IsCompared (under rewriter.now (value bindings.now.pairs)) pair.now) }
 {

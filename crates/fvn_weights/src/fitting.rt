@@ -87,7 +87,8 @@ fn has_ones(weights: &Weights, f: OpId) -> bool
 
 // Whether the operator counts its two arguments once, where it may move its brackets.
 fn is_plain_sum(sig: &Signature, weights: &Weights, f: OpId) -> bool
-    ensures { IsTrue result ↔ (IsAssociative (axioms sig.now f) → HasOnes (linear weights.now.list) f) }
+    ensures { IsTrue result
+        ↔ (IsAssociative (axioms sig.now f) → HasOnes (linear weights.now.list) f) }
 {
     let declared = sig.axioms(f);
     let sums = declared.is_sum();

@@ -7,7 +7,8 @@ use std::process::Abort;
 use std::string::String;
 use std::thread::Threads;
 
-/// Rows of which each read and each write fails in turn; `work` reads nothing.
+/// Rows of which each read and each write fails in turn; `work` reads nothing. Each exits with 0 where none fails, and its
+/// number is not read.
 const ROWS: &str = "\
 check <= fmod PLUS is sort N . op 0 : -> N . op s : N -> N . op + : N N -> N . vars X Y : N . eq +(0,Y) = Y [variant] . endfm ==> 0 | module PLUS sorts 1 kinds 1 operators 3 equations 1 | sorts kept
 variants | dec(X,Y) <= fmod ENC is sort S . ops enc dec : S S -> S . vars X Y : S . eq dec(enc(X,Y),Y) = X [variant] . endfm ==> 0 | #1:S {X:S --> enc(#1:S,#2:S), Y:S --> #2:S} | dec(#1:S,#2:S) {X:S --> #1:S, Y:S --> #2:S} | complete 2

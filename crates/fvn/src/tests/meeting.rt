@@ -53,6 +53,7 @@ impl Meeting {
 }
 
 impl Gate for Meeting {
+    /// From the third piece on each looks for another one.
     fn enter(&self, _piece: u32) {
         // The first level has one variant, and few children: neither piece has anybody to meet.
         if self.come.fetch_add(1, Ordering::SeqCst) < 2 {

@@ -26,15 +26,18 @@ module _ (d : Declarations) (b : Bindings) where
 
   -- what is asked of c: the values, and the patterns
   abbrev pub ApartAsks : Apart → Values → Type 0
-  ApartAsks a c = Agrees (values_with a) c × AllMake d (references a.patterns.items) (references a.targets.items) c
+  ApartAsks a c =
+      Agrees (values_with a) c × AllMake d (references a.patterns.items) (references a.targets.items) c
 
   -- P was taken apart: together with what was asked it asks what is asked now, of patterns that weigh at most w more
   pub record IsTakenApart (before after : Apart) (P : Values → Type 0) (w : ℕ) : Type 0 where
     pub fits : ApartFits after
     pub asks : (c : Values) → IsCandidate d c → (P c × ApartAsks before c) ↔ ApartAsks after c
-    pub lighter : weight_of (references after.patterns.items) ≤ weight_of (references before.patterns.items) + w
+    pub lighter :
+        weight_of (references after.patterns.items) ≤ weight_of (references before.patterns.items) + w
 
   -- P was taken apart, or no candidate does it
   abbrev pub TakesApart : Apart → Apart → (Values → Type 0) → ℕ → Bool → Type 0
   TakesApart before after P w true = IsTakenApart before after P w
-  TakesApart before after P w false = (c : Values) → IsCandidate d c → P c → ApartAsks before c → ⊥
+  TakesApart before after P w false =
+      (c : Values) → IsCandidate d c → P c → ApartAsks before c → ⊥

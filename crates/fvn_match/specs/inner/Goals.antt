@@ -17,7 +17,7 @@ use Rattle.fvn_match.specs.inner.Tallies.{repeated, AreDistinct, AddsUp}
 use Rattle.fvn_match.specs.inner.Summands.{references}
 use Rattle.fvn_match.specs.inner.Candidates.{Values, IsCandidate}
 use Rattle.fvn_match.specs.declared.goals.Binding.{Binding}
-use Rattle.fvn_match.specs.declared.goals.Goals.{Goals, Done, Lists', Refs', Pair'}
+use Rattle.fvn_match.specs.declared.goals.Goals.{Goals, Done, Lists', Pairs', Pair'}
 use Rattle.fvn_match.specs.declared.goals.SumGoal.{SumGoal}
 use Rattle.fvn_match.specs.declared.goals.Sums.{Sums, NoSum, WithSum'}
 use Rattle.fvn_match.specs.declared.goals.Bound.{Bound, Nothing, Bind', Several'}
@@ -28,8 +28,8 @@ with_bindings b [] = b
 with_bindings b (p ∷ ps) = with_bindings ((p.name, p.value.now) ∷ b) ps
 
 -- what x is bound to, if it is
-abbrev pub IsValue : Bindings → Var → Option (Bor FlatTerm) → Type 0
-IsValue b x found = MatchOption found (bound b x ≡ None) (λ t. bound b x ≡ Some t.now)
+abbrev pub IsBoundTo : Bindings → Var → Option (Bor FlatTerm) → Type 0
+IsBoundTo b x found = MatchOption found (bound b x ≡ None) (λ t. bound b x ≡ Some t.now)
 
 -- the variables that were bound, with their values
 abbrev pub bindings_of : Bound → Bindings
@@ -63,7 +63,8 @@ module _ (d : Declarations) where
   abbrev pub Asked : Goals → Sums → Values → Type 0
   Asked Done sums c = SumsHold sums c
   Asked (Lists' ps ts r rest) sums c = AllMake ps.now ts.now c × Asked rest sums c
-  Asked (Refs' pairs r rest) sums c = AllMake (references pairs.patterns.now) (references pairs.targets.now) c × Asked rest sums c
+  Asked (Pairs' pairs r rest) sums c =
+      AllMake (references pairs.patterns.now) (references pairs.targets.now) c × Asked rest sums c
   Asked (Pair' p t r rest) sums c = (inst d c p.now ≡ t.now) × Asked rest sums c
 
   -- what k copies of a pattern ask that are to be this choice of the pieces of a sum, and the other patterns, and then sums
@@ -83,7 +84,8 @@ module _ (d : Declarations) where
   abbrev pub GoalsFit : Goals → Type 0
   GoalsFit Done = Unit {0}
   GoalsFit (Lists' ps ts r rest) = AllZip IsPair ps.now ts.now × GoalsFit rest
-  GoalsFit (Refs' pairs r rest) = AllZip IsPair (references pairs.patterns.now) (references pairs.targets.now) × GoalsFit rest
+  GoalsFit (Pairs' pairs r rest) =
+      AllZip IsPair (references pairs.patterns.now) (references pairs.targets.now) × GoalsFit rest
   GoalsFit (Pair' p t r rest) = IsPair p.now t.now × GoalsFit rest
 
   -- a flat form of the kind
@@ -134,7 +136,7 @@ weight_of (t ∷ ts) = weight t + 2 + weight_of ts
 abbrev pub goals_weight : Goals → ℕ
 goals_weight Done = 0
 goals_weight (Lists' ps ts r rest) = weight_of ps.now + 1 + goals_weight rest
-goals_weight (Refs' pairs r rest) = weight_of (references pairs.patterns.now) + 1 + goals_weight rest
+goals_weight (Pairs' pairs r rest) = weight_of (references pairs.patterns.now) + 1 + goals_weight rest
 goals_weight (Pair' p t r rest) = weight p.now + 1 + goals_weight rest
 
 -- that of a sum

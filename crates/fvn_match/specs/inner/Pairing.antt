@@ -9,6 +9,6 @@ use Rattle.fvn_forms.specs.LeastSort.{least_sort}
 abbrev pub HaveOneKind : Declarations → FlatTerm → FlatTerm → Type 0
 HaveOneKind d p t = kind d (least_sort d p) ≡ kind d (least_sort d t)
 
--- the least sort of the target is not at or below that of the pattern
-abbrev pub IsSortedAbove : Declarations → FlatTerm → FlatTerm → Type 0
-IsSortedAbove d p t = AtOrBelow d (least_sort d t) (least_sort d p) → ⊥
+-- the target does not have the least sort of the pattern
+abbrev pub LacksSort : Declarations → FlatTerm → FlatTerm → Type 0
+LacksSort d p t = AtOrBelow d (least_sort d t) (least_sort d p) → ⊥

@@ -8,7 +8,7 @@ use Rattle.fvn_match.specs.declared.summands.Counted.{Counted}
 
 -- the forms that references point to
 abbrev pub references : List (Bor FlatTerm) → List FlatTerm
-references refs = map (λ r. r.now) refs
+references rs = map (λ r. r.now) rs
 
 -- where it is true, the pieces lack nothing but these forms; where it is false, they had fewer of some form than there are
 abbrev pub IsTakenAway : List FlatTerm → List ℕ → List ℕ → List FlatTerm → Bool → Type 0

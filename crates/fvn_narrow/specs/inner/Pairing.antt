@@ -29,8 +29,8 @@ pub record HasInner (d : Declarations) (equations : Equations) (f : OpId) (inner
   pub met : IsMet d equations f inner.left
   pub among : AreAmong (args_of inner.left) (args_of rule.left)
 
--- an associative f has a sum of the variable and the form
-pub record AddsUp (d : Declarations) (f : OpId) (x : Var) (form : FlatTerm) : Type 0 where
+-- an associative f takes the variable and the form, which fits
+pub record HasSumOf (d : Declarations) (f : OpId) (x : Var) (form : FlatTerm) : Type 0 where
   pub associative : IsAssociative (axioms d f)
   pub rank : Rank
   pub listed : Contains (declared d f).ranks rank
@@ -38,8 +38,8 @@ pub record AddsUp (d : Declarations) (f : OpId) (x : Var) (form : FlatTerm) : Ty
   pub fits : Fits d form
   pub of_kind : HasKind d (plain form) (kind d rank.result)
 
--- a variable whose sort the summands of f keep, f without an identity, and what another operator heads
-pub record IsBeside (d : Declarations) (f : OpId) (x : Var) (form : FlatTerm) : Type 0 where
+-- A variable whose sort the summands of f keep, f associative and without an identity, and what another operator heads.
+pub record IsOneBeside (d : Declarations) (f : OpId) (x : Var) (form : FlatTerm) : Type 0 where
   pub associative : IsAssociative (axioms d f)
   pub no_identity : identity (axioms d f) ≡ None
   pub keep : SummandsKeep d f x.sort
@@ -51,7 +51,7 @@ pub record IsHeadedFit (d : Declarations) (f : OpId) (rule : Rule) : Type 0 wher
   pub fits : Fits d rule.left
 
 -- the form fits, and an associative f heads it
-pub record IsSum (d : Declarations) (f : OpId) (t : FlatTerm) : Type 0 where
+pub record IsFitSum (d : Declarations) (f : OpId) (t : FlatTerm) : Type 0 where
   pub fits : Fits d t
   pub heads : head_of t ≡ Some f
   pub associative : IsAssociative (axioms d f)

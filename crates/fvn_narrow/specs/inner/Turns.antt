@@ -1,5 +1,5 @@
 -- The turns of an expansion, and what is found in them.
-use Rattle.std.specs.Prelude.{◌≡◌, ◌≤◌, ◌<◌, ◌⊎◌, ◌+◌, ℕ, Bool, true, IsTrue, List, [], ◌∷◌, ◌++◌, length, map, take, drop, All, Contains, Some, None, slice_get}
+use Rattle.std.specs.Prelude.{◌≡◌, ◌≤◌, ◌<◌, ◌⊎◌, ◌+◌, ℕ, Bool, true, false, IsTrue, List, [], ◌∷◌, ◌++◌, length, map, take, drop, All, Contains, Some, None, slice_get}
 use Rattle.fvn_base.specs.declared.limits.TheConstants.{FIRST_FRESH}
 use Rattle.fvn_terms.specs.declared.plain.Var.{Var}
 use Rattle.fvn_terms.specs.declared.plain.OpId.{OpId}
@@ -38,6 +38,7 @@ use Rattle.fvn_narrow_children.specs.Starts.{IsNumberedUpTo}
 use Rattle.fvn_narrow_children.specs.Values.{AreIrreducible}
 use Rattle.fvn_narrow_children.specs.Growing.{AreGrown}
 use Rattle.fvn_narrow.specs.Settings.{narrowing_setting}
+use Rattle.fvn_narrow.specs.inner.Serving.{SomeServes}
 
 -- which member of the terms, the path to a form in it, what stands beside a part of this form, and a rule
 pub record Turn : Type 0 where
@@ -158,6 +159,12 @@ pub record Try : Type 0 where
 abbrev pub try_of : FlatTerm → Rule → Try
 try_of at rule = record { at = at; rule = rule }
 
+-- where rules that are met in pairs are passed over, this is one; and where they are not, another serves in its place
+abbrev pub IsPassedOver : Rewriting → Bool → List Rule → Try → Type 0
+IsPassedOver r passes rules try =
+    (IsTrue passes × IsMetInPairs r.signature r.rules try.rule)
+    ⊎ ((passes ≡ false) × SomeServes r.signature try.at rules try.rule)
+
 module _ (r : Rewriting) (unifiers : ℕ) (v : Variant) where
   -- the setting of its children
   abbrev pub setting : Setting
@@ -172,7 +179,11 @@ module _ (r : Rewriting) (unifiers : ℕ) (v : Variant) where
   TryLiftsUnless passes try children = TryLifts try children
       ⊎ (IsTrue passes × IsMetInPairs r.signature r.rules try.rule)
 
-  -- the same; or the rule is met in pairs, and at the pairs of the form's summands they lift
+  -- they lift there; or the rule is passed over
+  abbrev pub TryLiftsAmong : Bool → List Rule → Try → List Variant → Type 0
+  TryLiftsAmong passes rules try children = TryLifts try children ⊎ IsPassedOver r passes rules try
+
+  -- they lift there; or the rule is met in pairs, and at the pairs of the form's summands they lift
   abbrev pub TryLiftsByParts : Try → List Variant → Type 0
   TryLiftsByParts try children = TryLifts try children
       ⊎ (IsMetInPairs r.signature r.rules try.rule

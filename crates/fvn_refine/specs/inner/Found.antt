@@ -49,6 +49,10 @@ module _ (d : Declarations) where
     abbrev pub AreUnder : List FlatTerm → List SortId → Row → Type 0
     AreUnder ts ss m = AllZip (λ t s. IsUnder t s m) ts ss
 
+    -- at the sorts of each of the rows the form has the sort or one below it
+    abbrev pub AreAllUnder : FlatTerm → SortId → List Row → Type 0
+    AreAllUnder t s rows = (r : Row) → Contains rows r → IsUnder t s r
+
     -- the rows are at or below the way, and above each row below it that has the property
     pub record Narrows (way : Row) (P : Row → Type 0) (rows : List Row) : Type 0 where
       pub found : (r : Row) → Contains rows r → IsRow d xs r × IsRowBelow d r way

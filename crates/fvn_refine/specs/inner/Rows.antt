@@ -1,5 +1,5 @@
 -- Rows: lists of sorts that stand beside a list of variables or of arguments.
-use Rattle.std.specs.Prelude.{◌≡◌, Bool, not, if◌then◌else◌, List, [], ◌∷◌, ◌++◌, Contains}
+use Rattle.std.specs.Prelude.{◌≡◌, ◌⊎◌, Bool, not, if◌then◌else◌, List, [], ◌∷◌, ◌++◌, length, Contains}
 use Rattle.std.specs.List.{AllZip, filter, list_any}
 use Rattle.fvn_terms.specs.declared.plain.Var.{Var}
 use Rattle.fvn_terms.specs.declared.plain.SortId.{SortId}
@@ -58,3 +58,7 @@ module _ (d : Declarations) where
   abbrev pub with_rows : List Row → List Row → List Row
   with_rows rows [] = rows
   with_rows rows (row ∷ more) = with_rows (with_row rows row) more
+
+  -- the rows with more of them, which are all where there were none
+  abbrev pub AreJoined : List Row → List Row → List Row → Type 0
+  AreJoined rows more all = (all ≡ with_rows rows more) ⊎ ((length rows ≡ 0) × (all ≡ more))

@@ -5,10 +5,10 @@ ghost use Rattle.fvn_terms.specs.Signature.{kind, axioms, AtOrBelow, IsSort};
 ghost use Rattle.fvn_terms.specs.Equality.{identity};
 ghost use Rattle.fvn_forms.specs.Good.{IsGood, TakesKinds};
 ghost use Rattle.fvn_forms.specs.Ranks.{ranks_of, IsResult, result as least_result};
-ghost use Rattle.fvn_signature.specs.Queries.{arity, direct_subsorts, GivesKind, IsKind, IsTop, IsCompleted};
+ghost use Rattle.fvn_signature.specs.Queries.{arity, direct_subsorts, GivesKind, IsKind, IsCompleted};
 
 use crate::draft::Draft;
-use crate::queries::subsorts::{all_direct_subsorts, first_maximal};
+use crate::queries::subsorts::all_direct_subsorts;
 use fvn_base::Seq;
 use fvn_terms::{Axioms, Declarations, NoMemory, OpId, Rank, SortId};
 use std::alloc::Global;
@@ -98,16 +98,6 @@ impl Signature {
         self.draft.first_kind(op)
     }
 
-    /// The sort after which a kind is printed: the first of its maximal sorts.
-    pub fn top_of(&self, kind: SortId) -> SortId
-        ensures { IsKind self.now kind → IsTop self.now kind result }
-    {
-        match first_maximal(&self.draft, kind) {
-            Some(s) => s,
-            None => kind,
-        }
-    }
-
     /// The least sort to which the operator takes arguments of these sorts.
     ///
     /// Over two arguments it is read from a table; over others it costs a pass through the ranks, at worst
@@ -160,6 +150,7 @@ impl Signature {
         &self.draft.ranks_of(op)[i]
     }
 
+    /// The declared sorts right below a sort; of a kind, its maximal sorts.
     fn direct_of(&self, s: SortId) -> &[SortId]
         requires { IsSort self.now s }
         ensures { result.now ≡ direct_subsorts self.now s }
@@ -168,14 +159,6 @@ impl Signature {
             Some(list) => list.as_slice(),
             None => &[],
         }
-    }
-
-    /// The number of declared sorts right below a sort; of a kind, the number of its maximal sorts.
-    pub fn direct_subsorts_count(&self, s: SortId) -> usize
-        requires { IsSort self.now s }
-        ensures { result ≡ length (direct_subsorts self.now s) }
-    {
-        self.direct_of(s).len()
     }
 
     /// One of the declared sorts right below a sort, in the order of declaration.
@@ -209,6 +192,7 @@ impl Signature {
     }
 }
 
+/// Takes only what may be sent to and shared between threads.
 fn shared<T: Send + Sync>(_value: &T) {}
 
 /// Signatures may be sent to and shared between threads.

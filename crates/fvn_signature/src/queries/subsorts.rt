@@ -1,23 +1,26 @@
-//! The sorts right below a sort, and the first of the maximal sorts of a kind.
-ghost use Rattle.std.specs.Prelude.{◌≡◌, ◌&&◌, not, map, IfOk, ◌↔◌, ◌<◌, Any, IsTrue, MatchOption};
+//! The sorts right below a sort.
+ghost use Rattle.std.specs.Prelude.{◌≡◌, ◌&&◌, not, map, IfOk};
 ghost use Rattle.fvn_terms.specs.declared.plain.SortId.{SortId};
 ghost use Rattle.std.specs.List.{list_all};
 ghost use Rattle.fvn_signature.specs.FirstSorts.{first_sorts};
-ghost use Rattle.fvn_signature.specs.Queries.{is_below, is_direct, direct_subsorts, IsMaximalOf, IsTop};
+ghost use Rattle.fvn_signature.specs.Queries.{is_below, is_direct, direct_subsorts};
 
 use crate::draft::Draft;
 use fvn_base::Seq;
 use fvn_terms::{NoMemory, SortId};
 use std::alloc::Global;
 
+/// Whether the first sort is below the second, and another one.
 fn is_below(draft: &Draft, s: SortId, q: SortId) -> bool
     ensures { result ≡ is_below draft.now.declarations s q }
 {
     draft.is_at_or_below(s, q) && s != q
 }
 
+/// Whether the second sort is above the first and below the third, and is neither.
 fn stands_between(draft: &Draft, t: SortId, q: SortId, s: SortId) -> bool
-    ensures { result ≡ (is_below draft.now.declarations t q && is_below draft.now.declarations q s) }
+    ensures { result
+        ≡ (is_below draft.now.declarations t q && is_below draft.now.declarations q s) }
 {
     is_below(draft, t, q) && is_below(draft, q, s)
 }
@@ -35,6 +38,7 @@ fn is_nothing_between(draft: &Draft, t: SortId, s: SortId) -> bool
     true
 }
 
+/// Whether the second sort is below the first, and no declared sort stands between.
 fn is_direct(draft: &Draft, s: SortId, t: SortId) -> bool
     ensures { result ≡ is_direct draft.now.declarations s t }
 {
@@ -64,40 +68,4 @@ pub fn all_direct_subsorts(alloc: Global, draft: &Draft) -> Result<Vec<Seq<SortI
         all.push(Seq::from_vec(direct_subsorts(alloc, draft, SortId(s))?))?;
     }
     Ok(all)
-}
-
-/// Whether a pair of the order leads up from the sort.
-fn has_above(draft: &Draft, s: SortId) -> bool
-    ensures { IsTrue result ↔ Any (λ p. p.0 ≡ s) draft.now.declarations.below }
-{
-    for pair in draft.declarations.below.as_slice() {
-        if pair.0 == s {
-            return true;
-        }
-    }
-    false
-}
-
-/// Whether the declared sort is of the kind, and none is above it.
-fn is_maximal_of(draft: &Draft, of: SortId, s: SortId) -> bool
-    requires { s.0 < draft.now.declarations.sorts }
-    ensures { IsTrue result ↔ IsMaximalOf draft.now.declarations of s }
-{
-    if draft.declarations.kind(s) != of {
-        return false;
-    }
-    !has_above(draft, s)
-}
-
-/// The first of the maximal sorts of a kind.
-pub fn first_maximal(draft: &Draft, of: SortId) -> Option<SortId>
-    ensures { MatchOption result ((s : SortId) → IsMaximalOf draft.now.declarations of s →
-        ⊥) (IsTop draft.now.declarations of) }
-{
-    for s in 0..draft.declarations.sorts {
-        if is_maximal_of(draft, of, SortId(s)) {
-            return Some(SortId(s));
-        }
-    }
-    None
 }

@@ -36,6 +36,7 @@ fn is_bad_third(draft: &Draft, op: OpId, of: SortId, s: SortId, q: SortId, r: So
     left != right
 }
 
+/// The first sort that is a bad third.
 fn bad_third(draft: &Draft, op: OpId, of: SortId, s: SortId, q: SortId) -> Option<SortId>
     requires listed { of.0 < draft.now.total }
     ensures { IsFirstList one_sort (IsBadThird draft.now.declarations op of s q) result }
@@ -59,6 +60,7 @@ fn bad_third_of(draft: &Draft, op: OpId, of: SortId, s: SortId, q: SortId) -> Op
     bad_third(draft, op, of, s, q)
 }
 
+/// The first two sorts whose sum behind this one depends on its brackets.
 fn bad_pair(draft: &Draft, op: OpId, of: SortId, s: SortId) -> Option<(SortId, SortId)>
     requires listed { of.0 < draft.now.total }
     ensures { IsFirstList two_sorts (AreBadAfter draft.now.declarations op of s) result }

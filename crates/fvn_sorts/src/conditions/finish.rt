@@ -13,6 +13,7 @@ use fvn_signature_draft::{Collected, draft_of};
 use fvn_terms::NoMemory;
 use std::alloc::Global;
 
+// The signature of what is collected, or its first fault.
 fn signature_of(alloc: Global, collected: &Collected) -> Result<Signature, SigFault>
     requires { IsClosed collected.now }
     ensures good { IfOk result IsGood }

@@ -36,6 +36,7 @@ fn common(alloc: Global, draft: &Draft, x: SortId, y: SortId) -> Result<Vec<Sort
     Ok(list)
 }
 
+/// Whether the sort is at or below one of the list.
 fn is_below_one(draft: &Draft, list: &[SortId], s: SortId) -> bool
     ensures { IsTrue result → IsBelowOne draft.now.declarations list.now s }
 {
@@ -63,6 +64,7 @@ fn thinned(alloc: Global, draft: &Draft, list: &[SortId]) -> Result<Vec<SortId>,
     Ok(kept)
 }
 
+/// The list of one sort.
 fn one(alloc: Global, s: SortId) -> Result<Vec<SortId>, NoMemory>
     ensures { IfOk result (λ v. v.items ≡ s ∷ []) }
 {
@@ -158,7 +160,8 @@ fn one_takes_bounds(
     place: usize,
     left: &[usize],
 ) -> bool
-    ensures { IsTrue result → Any (TakesBounds draft.now.declarations ranks.now bounds.now place) left.now }
+    ensures { IsTrue result → Any (TakesBounds draft.now.declarations ranks.now bounds.now place)
+        left.now }
 {
     for number in left {
         if takes_bounds(draft, ranks, bounds, place, *number) {
@@ -213,7 +216,8 @@ fn are_covered(
     left: &[usize],
 ) -> Result<bool, NoMemory>
     requires place { place ≤ length bounds.now }
-    ensures { IfOk result (λ b. IsTrue b → Cover draft.now.declarations ranks.now bounds.now place left.now) }
+    ensures { IfOk result (λ b. IsTrue b
+        → Cover draft.now.declarations ranks.now bounds.now place left.now) }
 {
     if one_takes_bounds(draft, ranks, bounds, place, left) {
         return Ok(true);
@@ -267,7 +271,8 @@ pub fn have_third(
 ) -> Result<bool, NoMemory>
     requires one { Contains ranks.now one.now }
     requires other { Contains ranks.now other.now }
-    ensures { IfOk result (λ b. IsTrue b → HaveThird draft.now.declarations ranks.now one.now other.now) }
+    ensures { IfOk result (λ b. IsTrue b
+        → HaveThird draft.now.declarations ranks.now one.now other.now) }
 {
     if draft.is_at_or_below(one.result, other.result) {
         return Ok(true);

@@ -115,6 +115,7 @@ fn advanced(alloc: Global, draft: &Draft, s: SortId, ranks: &[Rank]) -> Result<V
     Ok(all)
 }
 
+/// The list with the sort before it.
 fn preceded(alloc: Global, s: SortId, list: Seq<SortId>) -> Result<Seq<SortId>, NoMemory>
     ensures { IfOk result (λ l. l ≡ s ∷ list) }
 {
@@ -147,7 +148,8 @@ pub fn first_without(
     ranks: &[Rank],
 ) -> Result<Option<Seq<SortId>>, NoMemory>
     requires listed { All (λ k. k.0 < draft.now.total) kinds.now }
-    ensures { IfOk result (IsFirstList the_list (HasNoLowest draft.now.declarations kinds.now ranks.now)) }
+    ensures { IfOk result
+        (IsFirstList the_list (HasNoLowest draft.now.declarations kinds.now ranks.now)) }
 {
     if have_lowest(alloc, draft, kinds, ranks)? {
         return Ok(None);

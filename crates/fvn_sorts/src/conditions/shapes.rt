@@ -37,6 +37,7 @@ fn have_same_kinds(declarations: &Declarations, some: &[SortId], others: &[SortI
     true
 }
 
+/// Whether the two ranks have arguments and results of the same kinds.
 fn have_one_kind(declarations: &Declarations, one: &Rank, other: &Rank) -> bool
     ensures { IsTrue result ↔ HaveOneKind declarations.now one.now other.now }
 {
@@ -107,7 +108,8 @@ fn has_bad_shape(draft: &Draft, collected: &Collected, declaration: &Declaration
 /// Whether it is one of the operator, with axioms that do not stand on its shape.
 fn is_bad_of(draft: &Draft, collected: &Collected, op: OpId, declaration: &Declaration) -> bool
     requires { IsDraftOf collected.now draft.now }
-    ensures { IsTrue result ↔ ((declaration.now.op ≡ op) × HasBadShape collected.now declaration.now) }
+    ensures { IsTrue result
+        ↔ ((declaration.now.op ≡ op) × HasBadShape collected.now declaration.now) }
 {
     if declaration.op != op {
         return false;
@@ -141,7 +143,8 @@ fn has_other_axioms(declaration: &Declaration, op: OpId, axioms: Axioms) -> bool
 
 /// Whether two declarations of the operator differ in axioms.
 fn axioms_differ(collected: &Collected, op: OpId) -> bool
-    ensures { IsTrue result ↔ Differ (λ e g. e.axioms ≡ g.axioms) (declarations_of collected.now op) }
+    ensures { IsTrue result ↔ Differ (λ e g. e.axioms ≡ g.axioms)
+        (declarations_of collected.now op) }
 {
     let first = first_axioms(collected, op);
     for declaration in collected.declarations.as_slice() {

@@ -39,6 +39,7 @@ fn declaration_fault(draft: &Draft, collected: &Collected, condition: Condition)
     }
 }
 
+/// The fault that an operator has by the condition.
 fn fault_at(condition: Condition, op: OpId) -> SigFault
     ensures { result ≡ fault_at condition op }
 {
@@ -112,7 +113,8 @@ fn result_fault(
 fn bad_brackets(draft: &Draft, collected: &Collected, op: OpId) -> Option<Triple>
     requires draft { IsDraftOf collected.now draft.now }
     requires agree { AgreeInKinds collected.now }
-    ensures { IsFirstList three_sorts (λ t. HasBadBrackets collected.now op t.first t.second t.third) result }
+    ensures { IsFirstList three_sorts
+        (λ t. HasBadBrackets collected.now op t.first t.second t.third) result }
 {
     let ranks = draft.declared_ranks(op);
     if ranks.is_empty() {

@@ -30,6 +30,7 @@ pub fn are_listed(draft: &Draft, op: OpId) -> bool
     true
 }
 
+/// Whether the results over the one first sort are those over the other.
 fn are_twins(draft: &Draft, op: OpId, q: SortId, s: SortId) -> bool
     ensures { IsTrue result → AreTwins draft.now.declarations op draft.now.total q s }
 {

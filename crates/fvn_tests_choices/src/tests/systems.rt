@@ -23,7 +23,8 @@ fn are_small(coefficients: &[i32]) -> bool
 /// Whether each row has so many coefficients, all allowed.
 fn are_rows(rows: &[Row], columns: usize) -> bool
     ensures sized { IsTrue result → All (λ r. length r ≡ columns) (coefficients_of rows.now) }
-    ensures bounded { IsTrue result → All (All (λ c. unsigned_abs c ≤ 65535)) (coefficients_of rows.now) }
+    ensures bounded { IsTrue result → All (All (λ c. unsigned_abs c ≤ 65535))
+        (coefficients_of rows.now) }
 {
     for row in rows {
         if row.coefficients.len() != columns || !are_small(row.coefficients.as_slice()) {

@@ -17,6 +17,7 @@ fn push_numbers(out: &mut String, list: &[usize]) -> Result<(), NoMemory> {
     Ok(())
 }
 
+/// Both numbers of each pair.
 fn push_pairs(out: &mut String, list: &[(usize, usize)]) -> Result<(), NoMemory> {
     for (i, j) in list {
         push_numbers(out, &[*i, *j])?;
@@ -30,6 +31,7 @@ fn push_operator(out: &mut String, mark: &str, f: OpId) -> Result<(), NoMemory> 
     push_sign(out, b'f', usize::from(f.0))
 }
 
+/// The letter of each operator.
 fn push_operators(out: &mut String, list: &[OpId]) -> Result<(), NoMemory> {
     for f in list {
         push_operator(out, "", *f)?;
@@ -48,6 +50,7 @@ pub fn push_classes(out: &mut String, classes: &Classes) -> Result<(), NoMemory>
     push_operators(out, classes.ops.as_slice())
 }
 
+/// A letter for what heads each class, and the letter of its operator.
 fn push_heads(out: &mut String, heads: &[Head]) -> Result<(), NoMemory> {
     for head in heads {
         match head {
@@ -60,6 +63,7 @@ fn push_heads(out: &mut String, heads: &[Head]) -> Result<(), NoMemory> {
     Ok(())
 }
 
+/// A cross for each pair that is crossed, and a dash for each other.
 fn push_ways(out: &mut String, swaps: &[bool]) -> Result<(), NoMemory> {
     for crossed in swaps {
         out.push_str(if *crossed { "x" } else { "-" })?;

@@ -1,5 +1,7 @@
 //! Problems with their unifiers.
+use super::searching::shown_searched;
 use super::solving::shown_solved;
+use fvn_signature::Signature;
 use fvn_terms::NoMemory;
 use fvn_tests_samples::signature_of;
 use std::alloc::Global;
@@ -10,13 +12,13 @@ use std::process::Abort;
 pub const OPERATORS: &str =
     "A; f : -> A; g : -> A; h : A -> A; i : A A -> A; j : A A -> A [comm]; k : A A -> A [assoc comm]; l : A A -> A [assoc comm id: g]; m : A A -> A [assoc comm id: g]; n : A A -> A [assoc comm]; o : -> A";
 
-// The same, and a sort B of elements below A, of which o is one; a sum with g is no element, so that l and m are not
-// neutral.
-const WITH_ELEMENTS: &str =
+/// The same, and a sort B of elements below A, of which o is one; a sum with g is no element, so that l and m are not
+/// neutral.
+pub const WITH_ELEMENTS: &str =
     "A B; B < A; f : -> A; g : -> A; h : A -> A; i : A A -> A; j : A A -> A [comm]; k : A A -> A [assoc comm]; l : A A -> A [assoc comm id: g]; m : A A -> A [assoc comm id: g]; n : A A -> A [assoc comm]; o : -> B";
 
-// Elements A below bags B; the empty bag f, the elements g to s, and the sum t of bags.
-const BAGS: &str =
+/// Elements A below bags B; the empty bag f, the elements g to s, and the sum t of bags.
+pub const BAGS: &str =
     "A B; A < B; f : -> B; g : -> A; h : -> A; i : -> A; j : -> A; k : -> A; l : -> A; m : -> A; n : -> A; o : -> A; p : -> A; q : -> A; r : -> A; s : -> A; t : B B -> B [assoc comm id: f]";
 
 // Numbers of unifiers and of symbols at which a solver stops, and a problem; how the solver ends with it and how many
@@ -182,8 +184,16 @@ const SOLVED_OF_BAGS: &str = "100 200 A0 B1 t = g => complete 1
 100 200 A0 A1 t = B2 => complete 1
 100 200 B0 B1 t = g h t => complete 4";
 
-/// Each problem is solved as its row says.
-fn assert_solved(
+/// What is shown of a row: of a search, where its text begins with this word, else of a solver.
+fn shown_row(alloc: Global, sig: &Signature, text: &str, known: &str) -> Result<String, NoMemory> {
+    match text.strip_prefix("search ") {
+        Some(problem) => shown_searched(alloc, sig, problem, known),
+        None => shown_solved(alloc, sig, text, known),
+    }
+}
+
+/// Of each row is shown what it says.
+pub fn assert_rows(
     rt: &impl Abort,
     alloc: Global,
     signature: &str,
@@ -195,7 +205,7 @@ fn assert_solved(
     for line in lines.lines() {
         let (text, told) = line.split_once(" => ").unwrap_or((line, "no row"));
         let (want, known) = told.split_once(" | ").unwrap_or((told, ""));
-        let found = shown_solved(alloc, &sig, text, known)?;
+        let found = shown_row(alloc, &sig, text, known)?;
         assert_eq!(rt; found.as_str(), want, "at {text}");
     }
     Ok(())
@@ -203,7 +213,7 @@ fn assert_solved(
 
 #[test]
 fn problems_are_solved_within_limits(rt: HostRuntime) -> Result<(), NoMemory> {
-    assert_solved(&rt, rt.alloc(), OPERATORS, SOLVED)?;
-    assert_solved(&rt, rt.alloc(), WITH_ELEMENTS, SOLVED_WITH_ELEMENTS)?;
-    assert_solved(&rt, rt.alloc(), BAGS, SOLVED_OF_BAGS)
+    assert_rows(&rt, rt.alloc(), OPERATORS, SOLVED)?;
+    assert_rows(&rt, rt.alloc(), WITH_ELEMENTS, SOLVED_WITH_ELEMENTS)?;
+    assert_rows(&rt, rt.alloc(), BAGS, SOLVED_OF_BAGS)
 }

@@ -65,6 +65,7 @@ fn met<R: Threads + Sync>(rt: &R, alloc: Global, sig: &Signature) -> Result<u32,
     Ok(if count == 2 { meeting.met() } else { 0 })
 }
 
+// So many variants have as many expansions.
 fn assert_counts<R: Threads + Abort + Sync>(
     rt: &R,
     alloc: Global,
@@ -87,6 +88,7 @@ fn each_member_is_expanded(rt: HostRuntime) -> Result<(), NoMemory> {
     Ok(())
 }
 
+// Two expansions see each other.
 fn assert_met<R: Threads + Abort + Sync>(
     rt: &R,
     alloc: Global,

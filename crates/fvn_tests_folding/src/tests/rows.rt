@@ -78,6 +78,7 @@ pub fn inert(sig: &Signature) -> Inert<'_>
     Inert::new(sig.declarations(), Bounds { steps: 10, size: 5 })
 }
 
+// Both expanders, with one worker and with 16.
 fn assert_explored<R: Threads + Abort + Sync>(
     rt: &R,
     alloc: Global,
@@ -119,6 +120,7 @@ fn shown_questions<R: Threads + Sync>(
     Ok(out)
 }
 
+// How many questions each text asks is what its row says.
 fn assert_asked<R: Threads + Abort + Sync>(
     rt: &R,
     alloc: Global,

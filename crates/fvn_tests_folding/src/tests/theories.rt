@@ -109,10 +109,12 @@ fn cut<'a>(text: &'a str, mark: &str) -> (&'a str, &'a str) {
     text.split_once(mark).unwrap_or((text, ""))
 }
 
+// The number that digits write, or 0.
 fn number_of(word: &str) -> u32 {
     word.parse::<u32>().unwrap_or(0)
 }
 
+// The row of a line.
 fn row_of(text: &str) -> Row<'_> {
     let (name, behind) = cut(text, " ");
     let (levels, after) = cut(behind, " ");
@@ -181,6 +183,7 @@ fn counted_by<R: Threads + Sync, E: Expander>(
     shown_count(alloc, &x)
 }
 
+// How far it goes, with two workers.
 fn limits_of(bounded: Bounded) -> Limits
     ensures variants { 1 ≤ result.variants }
     ensures workers { result.workers ≡ 2 }
@@ -263,6 +266,7 @@ fn explored_in<R: Threads + Sync>(
     }
 }
 
+// The same of a module.
 fn explored_in_module<R: Threads + Sync>(
     rt: &R,
     alloc: Global,
@@ -279,6 +283,7 @@ fn explored_in_module<R: Threads + Sync>(
     )
 }
 
+// The same of the text of a module.
 fn explored_of<R: Threads + Sync>(
     rt: &R,
     alloc: Global,
@@ -291,6 +296,7 @@ fn explored_of<R: Threads + Sync>(
     }
 }
 
+// What is explored is what the row says.
 fn assert_row<R: Threads + Abort + Sync>(
     rt: &R,
     alloc: Global,

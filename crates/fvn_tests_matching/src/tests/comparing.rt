@@ -27,6 +27,7 @@ fn word_of(
     Ok(if found { "yes" } else { "no" })
 }
 
+// Whether the first covers the second, and the second the first.
 fn both(alloc: Global, sig: &Signature, a: &Variant, b: &Variant) -> Result<String, NoMemory>
     requires first { IsFlatVariant sig.now a.now }
     requires second { IsFlatVariant sig.now b.now }
@@ -62,6 +63,7 @@ fn shown_values(alloc: Global, sig: &Signature, list: &[Variant]) -> Result<Stri
     Ok(out)
 }
 
+// The first values of those that are left; nothing where they cannot be compared.
 fn pruned(alloc: Global, sig: &Signature, list: Vec<Variant>) -> Result<String, NoMemory>
     requires { All (IsFlatVariant sig.now) list.items }
 {
@@ -103,6 +105,7 @@ fn shown_marks(alloc: Global, found: &[bool]) -> Result<String, NoMemory> {
     Ok(out)
 }
 
+// The marks of the candidates, found by so many workers; nothing where they cannot be compared.
 fn marked<R: Threads + Sync>(
     rt: &R,
     alloc: Global,

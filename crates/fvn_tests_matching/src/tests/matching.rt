@@ -40,6 +40,7 @@ fn shown_bindings(
     Ok(out)
 }
 
+// What a matcher binds, or `no`.
 fn matched(
     alloc: Global,
     sig: &Signature,

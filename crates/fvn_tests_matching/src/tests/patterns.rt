@@ -163,7 +163,8 @@ C0 f | g f f => C0 f(g)
 A0 | g f => no
 B0 f | B1 f => B0 B1";
 
-// The same for sums of 200 and of 201 equal pieces, and for sums of six and more variables.
+// The same for sums of 200 and of 201 equal pieces, and for sums of six and more variables, in the last three blocks of many
+// different pieces, and of even and odd ones.
 const COUNTED: &str = "A; f : -> A; g : -> A; h : A A -> A [assoc comm]
 A0 A0 A0 h h | f~ f h~ => no
 A0 A0 A0 h h | f~ f h~ f h => yes
@@ -187,7 +188,24 @@ B0 B1 B2 B3 B4 B5 B6 B7 B8 h h h h h h h h | g g h g h g h g h g h g h g h g h g
 B0 B1 B2 B3 B4 B5 B6 B7 B8 h h h h h h h h | g g h g h g h g h g h g h g h => no
 A0 A1 A2 A3 A4 A5 h h h h h | f f h f h f h f h f h => yes
 A0 A1 A2 A3 A4 A5 h h h h h | g g h g h g h g h g h => no
-A0 A1 A2 A3 A4 A5 h h h h h | f f f f f g h h h h h => no";
+A0 A1 A2 A3 A4 A5 h h h h h | f f f f f g h h h h h => no
+
+A B; A < B; f : -> A; g : -> B; h : A -> A; i : B B -> B [assoc comm]
+A0 A1 i A2 i A3 i A4 i A5 i A6 i A7 i A8 i A9 i | f f h i f h h i f h h h i f h h h h i f h h h h h i f h h h h h h i f h h h h h h h i f h h h h h h h h i g i => no
+A0 A1 i A2 i A3 i A4 i A5 i A6 i A7 i A8 i A9 i | f f h i f h h i f h h h i f h h h h i f h h h h h i f h h h h h h i f h h h h h h h i f h h h h h h h h i f h h h h h h h h h i f h h h h h h h h h h i => no
+A0 A1 i A2 i A3 i A4 i A5 i A6 i A7 i A8 i A9 i | f f h i f h h i f h h h i f h h h h i f h h h h h i f h h h h h h i f h h h h h h h i f h h h h h h h h i f h h h h h h h h h i => yes
+A0 A1 i A2 i A3 i A4 i A5 i A6 i A7 i A8 i C0 i | f f h i f h h i f h h h i f h h h h i f h h h h h i f h h h h h h i f h h h h h h h i f h h h h h h h h i f h h h h h h h h h i g i => yes
+A0 h A1 h i A2 h i A3 h i A4 h i A5 h i A6 h i A7 h i | f h f h h i f h h h i f h h h h i f h h h h h i f h h h h h h i f h h h h h h h i f h h h h h h h h i f h h h h h h h h h i => no
+B0 B0 i B1 i B1 i B2 i B2 i B3 i B3 i B4 i B4 i B5 i B5 i B6 i B6 i B7 i B7 i B8 i B8 i | f f h i f h h i f h h h i f h h h h i f h h h h h i f h h h h h h i f h h h h h h h i f h h h h h h h h i f h h h h h h h h h i f i f h i f h h i f h h h i f h h h h i f h h h h h i f h h h h h h i f h h h h h h h i f h h h h h h h h i f h h h h h h h h h i f h h h h h h h h h h i g i => no
+B0 B0 i B1 i B1 i B2 i B2 i B3 i B3 i B4 i B4 i B5 i B5 i B6 i B6 i B7 i B7 i B8 i B8 i | f f h i f h h i f h h h i f h h h h i f h h h h h i f h h h h h h i f h h h h h h h i f h h h h h h h h i f h h h h h h h h h i f i f h i f h h i f h h h i f h h h h i f h h h h h i f h h h h h h i f h h h h h h h i f h h h h h h h h i f h h h h h h h h h i => yes
+
+A B; A < B; f : -> A; g : -> B; h : A -> A; i : B B -> B [assoc comm]; i : A A -> A [assoc comm]
+A0 A1 i A2 i A3 i A4 i A5 i A6 i A7 i A8 i C0 i | f f h i f h h i f h h h i f h h h h i f h h h h h i f h h h h h h i f h h h h h h h i g i g i g i => no
+A0 A1 i A2 i A3 i A4 i A5 i A6 i A7 i A8 i C0 i | f f h i f h h i f h h h i f h h h h i f h h h h h i f h h h h h h i f h h h h h h h i f h h h h h h h h i f h h h h h h h h h i g i => yes
+
+A B C; A < C; B < C; f : -> A; g : -> B; h : C C -> C [assoc comm]; h : A A -> A [assoc comm]; h : B B -> A [assoc comm]; h : A B -> B [assoc comm]
+A0 A1 h A2 h A3 h A4 h A5 h | g g h g h g h g h g h g h g h g h g h g h g h => yes
+A0 A1 h A2 h A3 h A4 h A5 h | g g h g h g h g h g h g h g h g h g h g h => no";
 
 // Blocks: a signature, and then two variants with whether the first covers the second, and the second the first.
 //

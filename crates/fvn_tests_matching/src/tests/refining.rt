@@ -59,6 +59,7 @@ fn push_subst(out: &mut String, sig: &Signature, s: &Subst) -> Result<(), NoMemo
     Ok(())
 }
 
+// The substitutions with ampersands between them, or `no`.
 fn shown_list(alloc: Global, sig: &Signature, list: &[Subst]) -> Result<String, NoMemory> {
     let mut out = String::new(alloc);
     if list.is_empty() {

@@ -27,6 +27,7 @@ pub enum Asked {
 
 const OFTEN: u32 = 199;
 
+// The part 199 times.
 fn push_often(out: &mut String, part: &str) -> Result<(), NoMemory> {
     for _ in 0..OFTEN {
         out.push_str(part)?;
@@ -34,6 +35,7 @@ fn push_often(out: &mut String, part: &str) -> Result<(), NoMemory> {
     Ok(())
 }
 
+// A part as it is, or 199 times, by its place.
 fn push_part(out: &mut String, place: usize, part: &str) -> Result<(), NoMemory> {
     if place % 2 == 1 {
         return push_often(out, part);
@@ -51,6 +53,7 @@ fn expanded(alloc: Global, text: &str) -> Result<String, NoMemory> {
     Ok(out)
 }
 
+// What is shown of the text.
 fn shown<R: Threads + Sync>(
     rt: &R,
     alloc: Global,
@@ -71,6 +74,7 @@ fn shown<R: Threads + Sync>(
     }
 }
 
+// What is shown of the text of a row is what the row says.
 fn assert_row<R: Threads + Abort + Sync>(
     rt: &R,
     alloc: Global,
@@ -85,6 +89,7 @@ fn assert_row<R: Threads + Abort + Sync>(
     Ok(())
 }
 
+// The same of each row.
 fn assert_rows<R: Threads + Abort + Sync>(
     rt: &R,
     alloc: Global,
@@ -98,6 +103,7 @@ fn assert_rows<R: Threads + Abort + Sync>(
     Ok(())
 }
 
+// The rows of a block, over the signature of its first line.
 fn assert_block<R: Threads + Abort + Sync>(
     rt: &R,
     alloc: Global,

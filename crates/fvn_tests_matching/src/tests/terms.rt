@@ -34,6 +34,7 @@ pub fn shown_form(alloc: Global, sig: &Signature, text: &str) -> Result<String, 
     }
 }
 
+// The term with new variables, and the next free number.
 fn renamed(alloc: Global, sig: &Signature, u: &Flat) -> Result<String, NoMemory>
     requires { Fits sig.now u.now }
 {

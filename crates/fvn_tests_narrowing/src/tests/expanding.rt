@@ -40,14 +40,17 @@ STEP sort S . op 0 : -> S . ops s p : S -> S . op term : S S S -> S . vars X Y Z
 BLIND sort S . ops sg bl ub ch : S S -> S . op term : S S S -> S . vars X Y Z : S . eq ub(sg(bl(X,Y),Z),Y) = sg(X,Z) [variant] . eq ub(bl(X,Y),Y) = X [variant] . eq ch(sg(X,Y),Y) = X [variant] .
 MEMBER sorts Elt Set Truth . subsort Elt < Set . op tt : -> Truth . op mt : -> Set . op ; : Set Set -> Set [assoc comm id: mt] . op in : Elt Set -> Truth . op term : Elt Set Set -> Truth . var X : Elt . vars Y Z : Set . eq in(X,;(X,Y)) = tt [variant] .
 SORTED sorts A B . subsort A < B . op a : -> A . op b : -> B . ops f g : B -> B . op term : B B B -> B . vars X Y : B . var Z : A . eq f(Z) = Z [variant] . eq g(f(X)) = X [variant] .
+GROUP sort G . ops a e : -> G . op i : G -> G . op + : G G -> G [assoc comm] . op term : G G G -> G . vars X Y Z : G . eq +(X,e) = X [variant] . eq +(X,i(X)) = e [variant] . eq i(i(X)) = X [variant] . eq i(e) = e [variant] . eq +(i(X),i(Y)) = i(+(X,Y)) [variant] . eq i(+(i(X),Y)) = +(X,i(Y)) [variant] . eq +(i(+(X,Y)),Y) = i(X) [variant] .
 LOOP sort S . op a : -> S . op f : S -> S . op term : S S S -> S . vars X Y Z : S . eq f(X) = f(X) [variant] .";
 
 // Each line has the name of a module, the number of unifiers at which the solver stops, a term, the number of its children
 // and the end; behind a bar the children may stand, each with its term, and behind a semicolon its values of the term's
 // variables in the order of their first occurrence. Operators stand as their numbers, and variables as theirs in order of
 // first occurrence. The children are made by hand; those of sums are counted by a model of narrowing two summands at a
-// time. In XORS, where the variables have a sort and not its kind, `mt` beside two summands is a rule of its own, with two
-// children more for two variables. In PARITY the sum of two odd constants is even, and stands for a variable of that sort.
+// time. In XORS, where the variables have a sort and not its kind, `mt` beside two summands is a rule of its own, in whose
+// place that of `mt` beside one serves, so that there are as many children as in XOR. In PARITY the sum of two odd
+// constants is even, and stands for a variable of that sort. In GROUP two variables have 26 children: 2 by `e`, 8 and 8
+// by an inverse beside what it is of, alone and within another one, and 8 by two inverses; no sum of three is taken whole.
 // Where two places stop, the end of the first is told.
 const ROWS: &str = "ENC 100 dec(X,Y) => 1 whole | x0 ; f2(x0,x1) x1
 ENC 100 dec(dec(X,Y),Y) => 1 whole | f3(x0,x1) ; f2(x0,x1) x1
@@ -86,8 +89,8 @@ XOR 100 mt => 0 whole
 XOR 100 *(X,Y,Z) => 18 whole
 XOR 100 *(X,Y,c) => 12 whole
 XOR 100 *(X,c,d) => 6 whole
-XORS 100 *(X,Y,Z) => 24 whole
-XORS 100 *(X,Y,c) => 14 whole
+XORS 100 *(X,Y,Z) => 18 whole
+XORS 100 *(X,Y,c) => 12 whole
 PARITY 100 *(a,b,a,b) => 1 whole | f2 ;
 PARITY 100 *(a,a,b) => 0 whole
 ENDS 1 pair(g(k(X,Y)),f(Z)) => 1 unifiers
@@ -95,7 +98,9 @@ ENDS 1 pair(f(X),g(k(Y,Z))) => 0 steps
 XORN 100 *(X,Y) => 6 whole
 XORN 100 *(X,Y,Z) => 18 whole
 MIXED 100 *(a,g(a),d) => 2 whole
-MIXED 100 *(a,b,g(*(a,b))) => 1 whole";
+MIXED 100 *(a,b,g(*(a,b))) => 1 whole
+GROUP 100 +(X,Y) => 26 whole
+GROUP 100 +(X,Y,Z) => 78 whole";
 
 // Each line has the name of a module, a number of steps, a term, and what a search for its normal form ends with.
 const RESTS: &str = "LOOP 5 f(a) => steps f1(f0) f1(f0)

@@ -21,6 +21,7 @@ fn push_above(out: &mut String, alloc: Global, module: &Module, s: SortId) -> Re
     Ok(())
 }
 
+// Each declared sort with those above it and its kind.
 fn push_sorts(out: &mut String, alloc: Global, module: &Module) -> Result<(), NoMemory> {
     for s in 0..MOST {
         if usize::from(s) < module.signature().sort_count() {
@@ -39,6 +40,7 @@ fn push_sorts(out: &mut String, alloc: Global, module: &Module) -> Result<(), No
     Ok(())
 }
 
+// The word for the axioms of an operator, and its identity.
 fn push_axioms(out: &mut String, module: &Module, op: OpId) -> Result<(), NoMemory> {
     match module.signature().axioms(op) {
         Axioms::Free => out.push_str(" free")?,
@@ -129,6 +131,7 @@ fn push_results(
     Ok(())
 }
 
+// Each operator with its axioms and its results.
 fn push_operators(out: &mut String, alloc: Global, module: &Module) -> Result<(), NoMemory> {
     for op in 0..MOST {
         if usize::from(op) < module.signature().op_count() {
@@ -141,6 +144,7 @@ fn push_operators(out: &mut String, alloc: Global, module: &Module) -> Result<()
     Ok(())
 }
 
+// The two sides of each equation.
 fn push_equations(out: &mut String, alloc: Global, module: &Module) -> Result<(), NoMemory> {
     let nameless = Texts::new(alloc);
     for equation in module.equations() {
@@ -157,6 +161,7 @@ fn push_equations(out: &mut String, alloc: Global, module: &Module) -> Result<()
     Ok(())
 }
 
+// All that the module answers.
 fn shown(alloc: Global, module: &Module) -> Result<String, NoMemory> {
     let mut out = String::new(alloc);
     push_sorts(&mut out, alloc, module)?;

@@ -363,6 +363,7 @@ fn push_variables(
     Ok(())
 }
 
+// The pairs of a problem, and its variables.
 fn shown_problem(alloc: Global, names: &Names, problem: &Problem) -> Result<String, NoMemory> {
     let mut out = String::new(alloc);
     let texts = &problem.names.texts;
@@ -374,6 +375,7 @@ fn shown_problem(alloc: Global, names: &Names, problem: &Problem) -> Result<Stri
     Ok(out)
 }
 
+// The term, and its variables.
 fn shown_query(alloc: Global, names: &Names, query: &Query) -> Result<String, NoMemory> {
     let mut out = String::new(alloc);
     let texts = &query.names.texts;
@@ -382,6 +384,7 @@ fn shown_query(alloc: Global, names: &Names, query: &Query) -> Result<String, No
     Ok(out)
 }
 
+// Each variable that is bound, with its term.
 fn shown_bindings(
     alloc: Global,
     names: &Names,
@@ -398,6 +401,7 @@ fn shown_bindings(
     Ok(out)
 }
 
+// What the text asks as a problem, or its fault.
 fn told_problem(alloc: Global, module: &Module, text: &[u8]) -> Result<String, NoMemory>
     requires { AreNamesOf module.now.signature module.now.names }
 {
@@ -407,6 +411,7 @@ fn told_problem(alloc: Global, module: &Module, text: &[u8]) -> Result<String, N
     }
 }
 
+// What the text asks as a term, or its fault.
 fn told_query(alloc: Global, module: &Module, text: &[u8]) -> Result<String, NoMemory>
     requires { AreNamesOf module.now.signature module.now.names }
 {
@@ -431,6 +436,7 @@ fn told_in(
     }
 }
 
+// What the text binds in the problem of another text, or the first fault of the two.
 fn told_bindings(
     alloc: Global,
     module: &Module,
@@ -460,6 +466,7 @@ fn told(alloc: Global, module: &Module, text: &str) -> Result<String, NoMemory>
     told_bindings(alloc, module, problem.as_bytes(), text.as_bytes())
 }
 
+// What is told of the text of a line is what the line says.
 fn assert_line(
     rt: &impl Abort,
     alloc: Global,
@@ -474,6 +481,7 @@ fn assert_line(
     Ok(())
 }
 
+// The same of each line.
 fn assert_lines(
     rt: &impl Abort,
     alloc: Global,
@@ -486,6 +494,7 @@ fn assert_lines(
     Ok(())
 }
 
+// The lines of a block, over the module of its first line.
 fn assert_block(rt: &impl Abort, alloc: Global, block: &str) -> Result<(), NoMemory> {
     let (statements, lines) = block.split_once('\n').unwrap_or((block, ""));
     let text = module_text(alloc, statements)?;

@@ -3,7 +3,7 @@ use super::writing::{push_number, text_of};
 use fvn_module::{Module, ModuleFault, read_module};
 use fvn_module_statements::read_form;
 use fvn_module_syntax::{Mark, RawRank, Statement};
-use fvn_syntax::{Piece, RawSort, Text, cut, skip_term};
+use fvn_syntax::{Piece, RawSort, Row, Text, cut, skip_term};
 use fvn_terms::NoMemory;
 use std::alloc::Global;
 
@@ -20,6 +20,7 @@ fn push_sort(out: &mut String, sort: &RawSort<'_>) -> Result<(), NoMemory> {
     Ok(())
 }
 
+// The label of an equation, if it has one.
 fn push_label(out: &mut String, label: &Option<Text<'_>>) -> Result<(), NoMemory> {
     if let Some(text) = label {
         out.push('[')?;
@@ -66,6 +67,22 @@ fn push_rank(
     push_number(out, alloc, " ", attributes)
 }
 
+// The label, how many tokens the sides have, and the attributes.
+fn push_equation(
+    out: &mut String,
+    alloc: Global,
+    label: &Option<Text<'_>>,
+    left: &Row<'_>,
+    right: &Row<'_>,
+    marks: &[Mark<'_>],
+) -> Result<(), NoMemory> {
+    out.push_str(", eq ")?;
+    push_label(out, label)?;
+    push_number(out, alloc, "", left.pieces().len())?;
+    push_number(out, alloc, " = ", right.pieces().len())?;
+    push_marks(out, marks)
+}
+
 // What is read of a statement.
 fn push_statement(
     out: &mut String,
@@ -85,13 +102,7 @@ fn push_statement(
             left,
             right,
             marks,
-        } => {
-            out.push_str(", eq ")?;
-            push_label(out, label)?;
-            push_number(out, alloc, "", left.pieces().len())?;
-            push_number(out, alloc, " = ", right.pieces().len())?;
-            push_marks(out, marks.as_slice())
-        }
+        } => push_equation(out, alloc, label, left, right, marks.as_slice()),
         Statement::Operator {
             name,
             rank,
@@ -111,6 +122,7 @@ fn push_statement(
     }
 }
 
+// What is read of each statement.
 fn shown_list(alloc: Global, statements: &[Statement<'_>]) -> Result<String, NoMemory> {
     let mut out = String::new(alloc);
     out.push_str("read")?;
@@ -120,6 +132,7 @@ fn shown_list(alloc: Global, statements: &[Statement<'_>]) -> Result<String, NoM
     Ok(out)
 }
 
+// The statements of tokens, or their fault.
 fn shown_pieces<'a>(alloc: Global, pieces: &'a [Piece<'a>]) -> Result<String, NoMemory> {
     match read_form(alloc, pieces) {
         Ok(form) => shown_list(alloc, form.statements.as_slice()),
@@ -146,6 +159,7 @@ pub fn shown_body(alloc: Global, statements: &str) -> Result<String, NoMemory> {
     shown_form(alloc, text.as_str())
 }
 
+// How many tokens the term takes with which the row begins.
 fn shown_term(alloc: Global, row: &[Piece<'_>]) -> Result<String, NoMemory> {
     match skip_term(alloc, row)? {
         Some(n) => Ok(format!(in alloc; "{n}")?),

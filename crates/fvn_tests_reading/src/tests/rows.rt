@@ -20,6 +20,7 @@ pub enum Asked {
     Answers,
 }
 
+// The part so many times.
 fn push_often(out: &mut String, part: &str, count: u32) -> Result<(), NoMemory> {
     for _ in 0..count {
         out.push_str(part)?;
@@ -27,6 +28,7 @@ fn push_often(out: &mut String, part: &str, count: u32) -> Result<(), NoMemory> 
     Ok(())
 }
 
+// The part so many times, each time with its number.
 fn push_numbered(out: &mut String, alloc: Global, part: &str, count: u32) -> Result<(), NoMemory> {
     let (before, behind) = part.split_once('%').unwrap_or((part, ""));
     for i in 0..count {
@@ -56,6 +58,7 @@ fn push_counted(out: &mut String, alloc: Global, part: &str) -> Result<(), NoMem
     push_often(out, part, count)
 }
 
+// A part as it is, or so many times as it says.
 fn push_part(out: &mut String, alloc: Global, place: usize, part: &str) -> Result<(), NoMemory> {
     if place % 2 == 1 {
         return push_counted(out, alloc, part);
@@ -83,6 +86,7 @@ pub fn assert_shown(rt: &impl Abort, shown: &str, want: &str, line: &str) {
     assert_eq!(rt; told, want, "at {line}");
 }
 
+// What the table asks of the text.
 fn shown(alloc: Global, what: Asked, text: &str) -> Result<String, NoMemory> {
     match what {
         Asked::Term => shown_taken(alloc, text),
@@ -94,6 +98,7 @@ fn shown(alloc: Global, what: Asked, text: &str) -> Result<String, NoMemory> {
     }
 }
 
+// What is shown of a row is what it says.
 fn assert_row(rt: &impl Abort, alloc: Global, what: Asked, line: &str) -> Result<(), NoMemory> {
     let (text, want) = line.rsplit_once(" => ").unwrap_or((line, "no arrow"));
     let text = expanded(alloc, text)?;

@@ -85,6 +85,7 @@ pub fn push_term(
     }
 }
 
+// The arguments in parentheses, if there are any.
 #[cycle(show)]
 fn push_arguments(
     out: &mut String,

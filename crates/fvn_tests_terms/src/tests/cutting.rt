@@ -106,6 +106,7 @@ fn push_number(text: &mut String, alloc: Global, word: &str, number: usize) -> R
     Ok(())
 }
 
+// A token with its span.
 fn push_token(text: &mut String, alloc: Global, token: Token) -> Result<(), Fail> {
     push_number(text, alloc, letter(token.class), token.start)?;
     push_number(text, alloc, "-", token.end)?;
@@ -121,6 +122,7 @@ fn push_tokens(text: &mut String, alloc: Global, list: &[Token]) -> Result<(), F
     Ok(())
 }
 
+// A fault with its offset.
 fn push_fault(text: &mut String, alloc: Global, fault: LexFault) -> Result<(), Fail> {
     match fault {
         LexFault::BadByte(n) => push_number(text, alloc, "bad ", n),
@@ -137,6 +139,7 @@ fn push_shown(text: &mut String, alloc: Global, bytes: &[u8]) -> Result<(), Fail
     }
 }
 
+// What is shown of the bytes is what is wanted.
 fn assert_shown(
     rt: &impl Abort,
     alloc: Global,
@@ -150,6 +153,7 @@ fn assert_shown(
     Ok(())
 }
 
+// The same of each row.
 fn assert_rows(rt: &impl Abort, alloc: Global, rows: &str) -> Result<(), Fail> {
     for row in rows.split(';') {
         let (text, want) = row.split_once('|').unwrap_or((row, "no bar"));
@@ -178,6 +182,7 @@ fn refused_bytes(rt: HostRuntime) -> Result<(), Fail> {
     assert_rows(&rt, rt.alloc(), REFUSED)
 }
 
+// The same of a byte behind two letters.
 fn assert_byte(rt: &impl Abort, alloc: Global, byte: u8, want: &str) -> Result<(), Fail> {
     assert_shown(rt, alloc, "a byte", [b'a', b'b', byte].as_slice(), want)
 }
@@ -209,6 +214,7 @@ fn long_text(alloc: Global, line: &str) -> Result<Vec<u8>, Fail> {
     Ok(text)
 }
 
+// The line 32,768 times has so many tokens.
 fn assert_long(rt: &impl Abort, alloc: Global, line: &str, many: usize) -> Result<(), Fail> {
     let text = long_text(alloc, line)?;
     assert_eq!(rt; text.len(), 1_048_576, "at {line}");

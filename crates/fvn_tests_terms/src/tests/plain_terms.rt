@@ -18,10 +18,12 @@ const Y: Var = Var {
     fresh: false,
 };
 
+// An operator over nothing.
 fn constant(alloc: Global, f: u16) -> Plain {
     Plain::App(OpId(f), Args::from_vec(Vec::new(alloc)))
 }
 
+// The third operator over two terms.
 fn pair(alloc: Global, left: Plain, right: Plain) -> Result<Plain, NoMemory> {
     let mut items = Vec::new(alloc);
     items.push(left)?;
@@ -34,6 +36,7 @@ fn over(alloc: Global, left: Plain) -> Result<Plain, NoMemory> {
     pair(alloc, left, constant(alloc, 1))
 }
 
+// The pair of a term and of a variable over the constant.
 fn both(alloc: Global, left: Plain, right: Var) -> Result<Plain, NoMemory> {
     let last = over(alloc, Plain::Var(right))?;
     pair(alloc, left, last)
@@ -113,10 +116,12 @@ fn renaming(alloc: Global) -> Result<PlainSubst, NoMemory> {
     })
 }
 
+// So many operators over a row.
 fn large(alloc: Global, x: Var, height: u16, width: u16) -> Result<Plain, NoMemory> {
     tower(alloc, height, row(alloc, x, width)?)
 }
 
+// A term of 1,000 symbols is its copy.
 fn assert_copied(rt: &impl Abort, alloc: Global, term: &Plain) -> Result<(), NoMemory> {
     assert_eq!(rt; term.size(), 1000);
     assert!(rt; term.copy(alloc)?.same(term));
@@ -135,6 +140,7 @@ fn assert_renamed(
     Ok(())
 }
 
+// Terms of this height and width are copied and renamed.
 fn assert_large(rt: &impl Abort, alloc: Global, height: u16, width: u16) -> Result<(), NoMemory> {
     let term = large(alloc, X, height, width)?;
     let other = large(alloc, Y, height, width)?;
@@ -171,6 +177,7 @@ fn declarations(alloc: Global) -> Result<Declarations, NoMemory> {
     })
 }
 
+// An operator without axioms, of one rank.
 fn operators(alloc: Global) -> Result<Seq<OpDecl>, NoMemory> {
     let mut ranks = Vec::new(alloc);
     ranks.push(Rank {

@@ -118,6 +118,7 @@ fn assert_kept(rt: &impl Abort, alloc: Global, text: &[u8], read: &[u8]) -> Resu
     Ok(())
 }
 
+// The text through all sources and sinks.
 fn assert_whole(rt: &impl Abort, alloc: Global, text: &[u8]) -> Result<(), Fail> {
     assert!(rt; text.len() <= 1_048_576);
     assert_read(rt, alloc, text)?;
@@ -126,6 +127,7 @@ fn assert_whole(rt: &impl Abort, alloc: Global, text: &[u8]) -> Result<(), Fail>
     assert_kept(rt, alloc, text, &read)
 }
 
+// The same of a text of this length.
 fn assert_long(rt: &impl Abort, alloc: Global, length: usize) -> Result<(), Fail> {
     let text = long_text(alloc, length)?;
     assert_eq!(rt; text.len(), length);
@@ -160,6 +162,7 @@ fn outcome<S: Source>(alloc: Global, source: &mut S, limit: usize) -> &'static s
     }
 }
 
+// What comes of reading six bytes is what is wanted.
 fn assert_outcome(
     rt: &impl Abort,
     alloc: Global,
@@ -173,6 +176,7 @@ fn assert_outcome(
     Ok(())
 }
 
+// Six bytes are read.
 fn assert_six(rt: &impl Abort, alloc: Global, piece: usize, limit: usize) -> Result<(), Fail> {
     assert!(rt; 0 < piece && limit < 10);
     let mut source = six(alloc, piece, &[])?;

@@ -73,10 +73,12 @@ fn cut<'a>(text: &'a str, mark: &str) -> (&'a str, &'a str) {
     text.split_once(mark).unwrap_or((text, ""))
 }
 
+// The number that digits write, or 0.
 fn number_of(word: &str) -> u64 {
     word.parse::<u64>().unwrap_or(0)
 }
 
+// The row of a line.
 fn row_of(text: &str) -> Row<'_> {
     let (steps, behind) = cut(text, " ");
     let (size, rest) = cut(behind, " ");
@@ -186,6 +188,7 @@ fn may_be_explored<E: Expander>(
     }
 }
 
+// The word for an end.
 fn end_name(end: &ExploreEnd) -> &'static str {
     match end {
         ExploreEnd::Complete => "complete",
@@ -206,6 +209,7 @@ fn shown(alloc: Global, r: &SolvedModulo) -> Result<String, NoMemory> {
     Ok(out)
 }
 
+// Limits that no row meets but for steps and symbols.
 fn limits() -> Limits
     ensures variants { 1 ≤ result.variants }
     ensures workers { result.workers ≡ 1 }
@@ -366,6 +370,7 @@ fn found_in<R: Threads + Sync>(
     }
 }
 
+// The same of a module.
 fn found_in_module<R: Threads + Sync>(
     rt: &R,
     alloc: Global,
@@ -376,6 +381,7 @@ fn found_in_module<R: Threads + Sync>(
     found_in(rt, alloc, declared.signature(), declared.equations(), row)
 }
 
+// The same of the module of all rows.
 fn found_of<R: Threads + Sync>(rt: &R, alloc: Global, row: &Row<'_>) -> Result<String, NoMemory> {
     match read_module(alloc, MODULE.as_bytes()) {
         Ok(module) => found_in_module(rt, alloc, &module, row),
@@ -383,6 +389,7 @@ fn found_of<R: Threads + Sync>(rt: &R, alloc: Global, row: &Row<'_>) -> Result<S
     }
 }
 
+// What is found is what the row says.
 fn assert_row<R: Threads + Abort + Sync>(
     rt: &R,
     alloc: Global,

@@ -106,6 +106,7 @@ fn push_read(
     push_named(text, alloc, module, weights)
 }
 
+// What is read of the weights in the module of a text.
 fn push_row(text: &mut String, alloc: Global, module: &str, weights: &str) -> Result<(), NoMemory> {
     match read_module(alloc, module.as_bytes()) {
         Ok(module) => push_read(text, alloc, &module, weights.as_bytes()),
@@ -113,6 +114,7 @@ fn push_row(text: &mut String, alloc: Global, module: &str, weights: &str) -> Re
     }
 }
 
+// What is read is what the row says.
 fn assert_row(
     rt: &impl Abort,
     alloc: Global,

@@ -21,6 +21,7 @@ pub fn push_number(
     Ok(())
 }
 
+// A fault with its number.
 fn push_fault(text: &mut String, alloc: Global, fault: &WeighFault) -> Result<(), NoMemory> {
     match fault {
         WeighFault::Shape(f) => push_number(text, alloc, "shape ", usize::from(f.0)),

@@ -54,6 +54,7 @@ sorts A B . op f : A B -> A . op p : B B -> A . eq f(f(f(X:A,X:B),Y:B),X:B) = p(
 sorts A B . op f : A B -> A . op p : B B -> A . eq f(f(f(X:A,Y:B),X:B),Y:B) = f(p(Y:B,Y:B),X:B) [variant] . => 1 1 1, 1 1 0 | terminates 0
 sorts A B . op f : A B -> A . op p : B B -> A . eq f(f(f(X:A,Y:B),X:B),Y:B) = f(p(X:B,Y:B),X:B) [variant] . => 1 1 1, 1 1 0 | grows 1";
 
+// The weight of an operator: its coefficients and its constant.
 fn weight_of(alloc: Global, text: &str) -> Result<Weight, NoMemory> {
     let mut numbers = Vec::new(alloc);
     for word in text.split(' ') {
@@ -66,6 +67,7 @@ fn weight_of(alloc: Global, text: &str) -> Result<Weight, NoMemory> {
     })
 }
 
+// The weights of operators, with commas between.
 fn weights_of(alloc: Global, text: &str) -> Result<Weights, NoMemory> {
     let mut list = Vec::new(alloc);
     for part in text.split(", ") {
@@ -77,6 +79,7 @@ fn weights_of(alloc: Global, text: &str) -> Result<Weights, NoMemory> {
     })
 }
 
+// What is answered for the module of a text.
 fn push_row(
     text: &mut String,
     alloc: Global,
@@ -89,6 +92,7 @@ fn push_row(
     }
 }
 
+// What is answered is what the row says.
 fn assert_row(
     rt: &impl Abort,
     alloc: Global,

@@ -1,10 +1,16 @@
 -- A vector with no other below it is put in.
-use Rattle.std.proofs.Common.{◌≡◌, ◌↔◌, ◌⊎◌, List, ℕ, subst, ◌∙◌}
+use Rattle.std.proofs.Common.{◌≡◌, ◌↔◌, ◌⊎◌, List, ℕ, length, sym, subst, ◌∙◌}
 use Rattle.std.specs.List.{Contains}
 use Rattle.fvn_lindio.specs.inner.Generators.{vectors_in}
-use Rattle.fvn_lindio.specs.inner.Least.{HasOther}
+use Rattle.fvn_lindio.specs.inner.Least.{HasOther, IsOrderedOf}
 use Rattle.fvn_lindio.proofs.LeastLemmas.{consider_kept, not_false}
 use Rattle.fvn_lindio.proofs.least.consider.Goals as goal
+
+pub insert-requires : goal.insert-requires
+insert-requires c = record { ordered = subst (λ z. IsOrderedOf (length z) (vectors_in c.args.list.now.items)) (sym (c.in_ok-v.ensures.ok ∙ c.as_slice-2.ensures)) c.requires.ordered }
+
+pub returns-clause-ordered : goal.returns-clause-ordered
+returns-clause-ordered c = subst (λ z. IsOrderedOf (length z) (vectors_in c.insert.new.list.items)) (c.in_ok-v.ensures.ok ∙ c.as_slice-2.ensures) c.in_ok-insert.ensures.ordered
 
 pub returns-clause-exact : goal.returns-clause-exact
 returns-clause-exact c =

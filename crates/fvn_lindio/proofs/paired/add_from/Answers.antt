@@ -1,22 +1,17 @@
 -- A point at zero is put in itself, and has no sums; of another the sums alone are put in.
 use Rattle.std.proofs.Common.{◌≡◌, ◌∙◌, pos, length, to_z, of_z, w64, ap, sym, subst, FitsSigned, rules}
-use Rattle.std.specs.List.{All}
 use Rattle.std.proofs.lemmas.Int.{to_z-of_z}
 use Rattle.fvn_lindio.specs.inner.Generators.{vectors_in}
-use Rattle.fvn_lindio.proofs.PairLemmas.{from_zero, from_sums, grown_by_point, ordered_more}
+use Rattle.fvn_lindio.specs.inner.Least.{IsOrderedOf}
+use Rattle.fvn_lindio.proofs.PairLemmas.{from_zero, from_sums, grown_by_point}
 use Rattle.fvn_lindio.proofs.paired.add_from.Goals as goal
 
-pub insert-requires-clause-sized : goal.insert-requires-clause-sized
-insert-requires-clause-sized c = subst (λ n. All (λ w. length w ≡ n) (vectors_in c.args.list.now.items)) (sym (ap length (c.in_ok-v.ensures.ok ∙ c.as_slice.ensures))) c.requires.ordered.sized
-
-pub insert-requires-clause-ordered : goal.insert-requires-clause-ordered
-insert-requires-clause-ordered c = c.requires.ordered.ordered
+pub insert-requires : goal.insert-requires
+insert-requires c = record { ordered = subst (λ n. IsOrderedOf n (vectors_in c.args.list.now.items)) (sym (ap length (c.in_ok-v.ensures.ok ∙ c.as_slice.ensures))) c.requires.ordered }
 
 pub returns-then-x-eq0-clause-ordered : goal.returns-then-x-eq0-clause-ordered
 returns-then-x-eq0-clause-ordered c =
-    let x = c.args.x.now in
-    ordered_more (length x.parts.items) (λ w. x.parts.items ≡ w) (vectors_in c.args.list.now.items) (vectors_in c.insert.new.list.items) (λ w p. ap length (sym p)) c.requires.ordered c.in_ok-insert.ensures.ordered
-    (grown_by_point x (vectors_in c.args.list.now.items) (vectors_in c.insert.new.list.items) c.in_ok-v.v.items (c.in_ok-v.ensures.ok ∙ c.as_slice.ensures) c.in_ok-insert.ensures.exact)
+    subst (λ n. IsOrderedOf n (vectors_in c.insert.new.list.items)) (ap length (c.in_ok-v.ensures.ok ∙ c.as_slice.ensures)) c.in_ok-insert.ensures.ordered
 
 pub returns-then-x-eq0-clause-exact : goal.returns-then-x-eq0-clause-exact
 returns-then-x-eq0-clause-exact c =

@@ -1,7 +1,8 @@
 -- The sums with the points so far are in the list.
 use Rattle.std.proofs.Common.{length, take}
 use Rattle.fvn_lindio.specs.inner.Generators.{vectors_in}
-use Rattle.fvn_lindio.specs.inner.Paired.{AnyOf, GrowsBy, IsOrderedOf, IsSum}
+use Rattle.fvn_lindio.specs.inner.Least.{GrowsBy, IsOrderedOf}
+use Rattle.fvn_lindio.specs.inner.Paired.{AnyOf, IsSum}
 use Rattle.fvn_lindio.proofs.paired.add_sums.Given as goal
 
 abbrev pub invariant-loop-u : goal.invariant-loop-u

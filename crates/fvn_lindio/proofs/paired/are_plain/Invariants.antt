@@ -5,4 +5,4 @@ use Rattle.fvn_lindio.specs.inner.Paired.{IsPlain}
 use Rattle.fvn_lindio.proofs.paired.are_plain.Given as goal
 
 abbrev pub invariant-loop-p : goal.invariant-loop-p
-invariant-loop-p l = All (IsPlain l.rises) (take l.p-index l.points)
+invariant-loop-p l = All (IsPlain l.sign) (take l.p-index l.points)

@@ -4,7 +4,8 @@ use Rattle.std.specs.List.{All, AllPairs}
 use Rattle.fvn_base.specs.Order.{IsBefore}
 use Rattle.fvn_lindio.specs.inner.Generators.{vectors_in}
 use Rattle.fvn_lindio.specs.inner.Levels.{CanAdd}
-use Rattle.fvn_lindio.specs.inner.Paired.{AnyOf, GrowsBy, IsFrom, IsOrderedOf}
+use Rattle.fvn_lindio.specs.inner.Least.{GrowsBy, IsOrderedOf}
+use Rattle.fvn_lindio.specs.inner.Paired.{AnyOf, IsFrom}
 use Rattle.fvn_lindio.proofs.LevelLemmas.{this_one}
 use Rattle.fvn_lindio.proofs.PairLemmas.{any_none, any_more, all_from, empty_ordered}
 use Rattle.fvn_lindio.proofs.paired.sums_of.Goals as goal

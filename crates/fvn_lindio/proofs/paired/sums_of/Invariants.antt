@@ -3,7 +3,8 @@ use Rattle.std.proofs.Common.{[], length, take}
 use Rattle.std.specs.List.{AllPairs, Contains}
 use Rattle.fvn_base.specs.Order.{IsBefore}
 use Rattle.fvn_lindio.specs.inner.Generators.{vectors_in}
-use Rattle.fvn_lindio.specs.inner.Paired.{AnyOf, GrowsBy, IsFrom, IsOrderedOf}
+use Rattle.fvn_lindio.specs.inner.Least.{GrowsBy, IsOrderedOf}
+use Rattle.fvn_lindio.specs.inner.Paired.{AnyOf, IsFrom}
 use Rattle.fvn_lindio.specs.declared.level.Point.{Point}
 use Rattle.fvn_lindio.proofs.paired.sums_of.Given as goal
 

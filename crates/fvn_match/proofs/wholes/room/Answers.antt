@@ -9,17 +9,17 @@ use Rattle.fvn_match.proofs.Runs.{length_references}
 use Rattle.fvn_match.proofs.Rooms.{room_of_all, room_beside_others}
 use Rattle.fvn_match.proofs.wholes.room.Goals as goal
 
-pub is_one_piece-requires : goal.is_one_piece-requires
-is_one_piece-requires c =
+pub is_single-requires : goal.is_single-requires
+is_single-requires c =
     let fit = c.requires.fits in
     let flat = (subst (AllByRecursion (IsFlatOf c.args.sig.now (kind c.args.sig.now fit.rank.result))) c.requires.group.first fit.patterns).0 in
-    record { flat = flat.flat; kinded = (kind c.args.sig.now fit.rank.result, flat.has_kind) }
+    record { associative = fit.associative; rank = fit.rank; listed = fit.listed; flat = flat }
 
 pub total-all-requires : goal.total-all-requires
 total-all-requires c = c.requires.fits.small
 
-pub returns-then-is_one_piece : goal.returns-then-is_one_piece
-returns-then-is_one_piece c = λ v k h. c.is_one_piece.ensures c.if-is_one_piece.true v k
+pub returns-then-is_single : goal.returns-then-is_single
+returns-then-is_single c = λ v k h. c.is_single.ensures c.if-is_single.true v k
 
 pub returns-in-Some : goal.returns-in-Some
 returns-in-Some c =

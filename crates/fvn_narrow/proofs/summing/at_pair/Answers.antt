@@ -5,7 +5,7 @@ use Rattle.fvn_terms.specs.declared.declarations.Declarations.{Declarations}
 use Rattle.fvn_flat.specs.Forms.{args_of}
 use Rattle.fvn_rewrite_rules.specs.declared.rule.Rule.{Rule}
 use Rattle.fvn_rewrite_rules.specs.Given.{headed}
-use Rattle.fvn_narrow.specs.inner.Pairing.{IsSum, AreOthers}
+use Rattle.fvn_narrow.specs.inner.Pairing.{IsFitSum, AreOthers}
 use Rattle.fvn_narrow.specs.inner.Turns.{turn_of, IsTurnAt, IsTryOf, IsTryAt, ForEach, TryLifts, TryLiftsUnless}
 use Rattle.fvn_narrow.proofs.Joined.{found_so}
 use Rattle.fvn_narrow.proofs.Whole.{rules_are}
@@ -16,7 +16,7 @@ pub pair_of-requires-clause-sum : goal.pair_of-requires-clause-sum
 pair_of-requires-clause-sum g c =
     let r = c.args.tools.now.rewriter.now in
     let p = c.args.sum.now in
-    subst (λ (d : Declarations). IsSum d c.args.f p.at.now) (sym c.signature.ensures)
+    subst (λ (d : Declarations). IsFitSum d c.args.f p.at.now) (sym c.signature.ensures)
     (sum_of r c.recall.ensures.good c.args.start.now.variant c.requires.ready.flat.terms p.member p.path.now c.args.f p.at.now c.requires.sum)
 
 pub by_rules-requires-clause-turns : goal.by_rules-requires-clause-turns

@@ -16,6 +16,9 @@ lower_value-requires-clause-rows c =
     let xs = c.args.search.now.vars.now in
     rows_found d xs (HaveSorts d xs c.args.subst.now (take c.loop-x.x-index c.args.vars.now)) c.loop-x.rows.items c.loop-x.invariant
 
+pub lower_value-requires-clause-apart : goal.lower_value-requires-clause-apart
+lower_value-requires-clause-apart c = c.loop-x.invariant.apart
+
 pub lower_value-requires-clause-sort : goal.lower_value-requires-clause-sort
 lower_value-requires-clause-sort c = (c.requires.bound c.loop-x.x-index _ c.loop-x-test.true).0
 

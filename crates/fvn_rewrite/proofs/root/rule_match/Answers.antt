@@ -2,6 +2,7 @@
 use Rattle.std.proofs.Common.{sym, ◌∙◌, subst}
 use Rattle.fvn_flat.specs.Fits.{AllFit}
 use Rattle.fvn_rewrite.proofs.Trying.{match_as}
+use Rattle.fvn_rewrite.proofs.Fewer.{short_has_no_matcher}
 use Rattle.fvn_rewrite.proofs.Repeated.{lacking_has_no_matcher}
 use Rattle.fvn_rewrite.proofs.root.rule_match.Goals as goal
 
@@ -10,6 +11,9 @@ may_match-open-requires c = record { pattern = c.requires.sides.left; target = c
 
 pub returns-then-not-open : goal.returns-then-not-open
 returns-then-not-open c = c.may_match-open.ensures c.if-not-open.true
+
+pub returns-then-short : goal.returns-then-short
+returns-then-short c = short_has_no_matcher c.args.sig.now c.args.rule.now.left c.args.t.now c.requires.sides.left c.requires.term (c.lacks_arguments-short.ensures c.if-short.true)
 
 pub returns-then-lost : goal.returns-then-lost
 returns-then-lost c = lacking_has_no_matcher c.args.sig.now c.args.rule.now.left c.args.t.now c.requires.sides.left c.requires.term (c.lacks_twins-lost.ensures c.if-lost.true)

@@ -1,7 +1,13 @@
--- None of the rules so far matches.
-use Rattle.std.proofs.Common.{take}
+-- None of the rules from this place on matches.
+use Rattle.std.proofs.Common.{◌≤◌, length, drop}
 use Rattle.fvn_rewrite.specs.inner.Trying.{NoneMatches}
 use Rattle.fvn_rewrite.proofs.testing.some_match.Given as goal
 
-abbrev pub invariant-loop-rule : goal.invariant-loop-rule
-invariant-loop-rule l = NoneMatches l.sig l.t (take l.rule-index l.rules)
+abbrev pub decreases-loop-i : goal.decreases-loop-i
+decreases-loop-i l = l.i
+
+abbrev pub invariant-loop-i : goal.invariant-loop-i
+invariant-loop-i l = record {
+  within : l.i ≤ length l.rules;
+  behind : NoneMatches l.sig l.t (drop l.i l.rules);
+}

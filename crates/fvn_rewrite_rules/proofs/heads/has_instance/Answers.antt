@@ -1,6 +1,12 @@
 -- A matcher is an instance.
-use Rattle.fvn_rewrite_rules.proofs.Matched.{left_fits, told}
+use Rattle.fvn_rewrite_rules.proofs.Matched.{rule_fits, left_fits, refused, told}
 use Rattle.fvn_rewrite_rules.proofs.heads.has_instance.Goals as goal
+
+pub may_match-open-requires : goal.may_match-open-requires
+may_match-open-requires c = record { pattern = rule_fits c.args.sig.now c.args.rule.now c.requires.rule; target = rule_fits c.args.sig.now c.args.other.now c.requires.other }
+
+pub returns-then-not-open : goal.returns-then-not-open
+returns-then-not-open c = refused c.args.sig.now c.args.rule.now c.args.other.now (c.may_match-open.ensures c.if-not-open.true)
 
 pub returns : goal.returns
 returns c =

@@ -20,11 +20,11 @@ use Rattle.fvn_match.proofs.SummandLists.{parts_in_order}
 use Rattle.fvn_match.proofs.Runs.{length_references, references-drop}
 use Rattle.fvn_match.proofs.PairSteps.{variable_is, variable_or_head}
 use Rattle.fvn_match.specs.inner.Apart.{IsTakenApart}
-use Rattle.fvn_match.proofs.TakingApart.{untouched_fits, as_many_left, left_pairs, left_values, lighter_left, found_never, found_apart, refs_parted, refs_weight, found_refs}
-use Rattle.fvn_match.proofs.PairFinding.{zip_long, two_is, one_more_candidate, if_found_bound, refused_sort, refused_above, found_known, refused_known, found_straight_of, found_across_of, crossing_pairs, found_values, found_no_pairs, refused_unheaded, pairs_of_args, as_many_args, found_free, crossing_args, two_of_patterns, two_of_targets, found_commutative}
+use Rattle.fvn_match.proofs.TakingApart.{untouched_fits, as_many_left, left_pairs, left_values, lighter_left, found_never, found_apart, pairs_parted, pairs_weight, found_pairs}
+use Rattle.fvn_match.proofs.PairFinding.{zip_long, two_is, one_more_candidate, if_found_bound, refused_sort, refused_unsorted, found_known, refused_known, found_straight_of, found_across_of, crossing_pairs, found_values, found_no_pairs, refused_unheaded, pairs_of_args, as_many_args, found_free, crossing_args, two_of_patterns, two_of_targets, found_commutative}
 use Rattle.fvn_match.proofs.SumFitting.{started_fits, smaller_fits}
-use Rattle.fvn_match.proofs.SumFinding.{IsTried, no_patterns, group_of, group_within, choice_within, as_long, length_quotients, each_itself, refused_short, refused_closed, found_open, open_fits, open_weight, refused_left, found_taken, found_only, found_choices, tried_none, found_choice, tried_one, tried_all}
-use Rattle.fvn_match.proofs.ChoiceFinding.{refused_whole, whole_pair, left_fits, found_whole}
+use Rattle.fvn_match.proofs.SumFinding.{IsTried, no_patterns, group_of, group_within, choice_within, as_long, length_quotients, each_itself, refused_hopeless, refused_closed, found_open, open_fits, open_weight, refused_left, found_taken, found_only, found_choices, tried_none, found_choice, tried_one, tried_all}
+use Rattle.fvn_match.proofs.ChoiceFinding.{refused_whole, refused_made, whole_pair, left_fits, found_whole}
 use Rattle.fvn_match.proofs.SummedFinding.{found_summed}
 use Rattle.fvn_match.proofs.WholeSteps.{not_zero}
 use Rattle.fvn_match.proofs.Weights.{weight_args, weight_of-reverse, weight_of-group}
@@ -47,16 +47,16 @@ solve-lists-requires t c =
 pub solve-returns-in-Lists : goal.solve-returns-in-Lists
 solve-returns-in-Lists t c = subst (λ g. IfOk c.lists.result (SearchesGoals c.args.self.now g c.args.sums.now c.args.bound.now)) (sym c.in-Lists.is) c.lists.ensures
 
-pub solve-refs-requires : goal.solve-refs-requires
-solve-refs-requires t c =
-    let fits = subst (GoalsFit c.args.self.now.sig.now) c.in-Refs.is c.requires.state.pairs in
-    let long = zip_long (IsPair c.args.self.now.sig.now) (references c.in-Refs.pairs.patterns.now) (references c.in-Refs.pairs.targets.now) fits.0 in
-    let ps = length_references c.in-Refs.pairs.patterns.now in
-    let ts = length_references c.in-Refs.pairs.targets.now in
-    (omega (arith, ap goals_weight c.in-Refs.is), (c.requires.vars, (sym ps ∙ long ∙ ts, (fits.0, record { pairs = fits.1; sums = c.requires.state.sums; values = c.requires.state.values }))))
+pub solve-one_by_one-requires : goal.solve-one_by_one-requires
+solve-one_by_one-requires t c =
+    let fits = subst (GoalsFit c.args.self.now.sig.now) c.in-Pairs.is c.requires.state.pairs in
+    let long = zip_long (IsPair c.args.self.now.sig.now) (references c.in-Pairs.pairs.patterns.now) (references c.in-Pairs.pairs.targets.now) fits.0 in
+    let ps = length_references c.in-Pairs.pairs.patterns.now in
+    let ts = length_references c.in-Pairs.pairs.targets.now in
+    (omega (arith, ap goals_weight c.in-Pairs.is), (c.requires.vars, (sym ps ∙ long ∙ ts, (fits.0, record { pairs = fits.1; sums = c.requires.state.sums; values = c.requires.state.values }))))
 
-pub solve-returns-in-Refs : goal.solve-returns-in-Refs
-solve-returns-in-Refs t c = subst (λ g. IfOk c.refs.result (SearchesGoals c.args.self.now g c.args.sums.now c.args.bound.now)) (sym c.in-Refs.is) c.refs.ensures
+pub solve-returns-in-Pairs : goal.solve-returns-in-Pairs
+solve-returns-in-Pairs t c = subst (λ g. IfOk c.one_by_one.result (SearchesGoals c.args.self.now g c.args.sums.now c.args.bound.now)) (sym c.in-Pairs.is) c.one_by_one.ensures
 
 pub solve-sum-requires : goal.solve-sum-requires
 solve-sum-requires t c =
@@ -83,8 +83,8 @@ lists-returns-then-not-can t c =
     found_never c.args.self.now.sig.now (bindings_of c.args.bound.now) c.args.self.now.vars.now (Asked c.args.self.now.sig.now c.args.rest.now c.args.sums.now) c.untouched-parts.result c.take_all.new.self c.untouched-parts.ensures
     c.args.ps.now c.args.ts.now (rw c.if-not-can.true at c.in_ok-can.ensures)
 
-pub lists-refs-requires : goal.lists-refs-requires
-lists-refs-requires t c =
+pub lists-one_by_one-requires : goal.lists-one_by_one-requires
+lists-one_by_one-requires t c =
     let d = c.args.self.now.sig.now in
     let b = bindings_of c.args.bound.now in
     let after = c.take_all.new.self in
@@ -111,31 +111,31 @@ lists-returns t c =
     let d = c.args.self.now.sig.now in
     let b = bindings_of c.args.bound.now in
     found_apart d b c.args.self.now.vars.now (Asked d c.args.rest.now c.args.sums.now) c.untouched-parts.result c.take_all.new.self c.untouched-parts.ensures c.args.ps.now c.args.ts.now (rw c.if-not-can.false at c.in_ok-can.ensures)
-    c.as_slice.result.now c.as_slice-patterns.result.now c.as_slice-targets.result.now c.as_slice.ensures.value c.as_slice-patterns.ensures.value c.as_slice-targets.ensures.value c.refs.result c.refs.ensures
+    c.as_slice.result.now c.as_slice-patterns.result.now c.as_slice-targets.result.now c.as_slice.ensures.value c.as_slice-patterns.ensures.value c.as_slice-targets.ensures.value c.one_by_one.result c.one_by_one.ensures
 
 -- references, pair by pair
-pub refs-solve-requires : goal.refs-solve-requires
-refs-solve-requires t c = (omega arith, (c.requires.vars, c.requires.state))
+pub one_by_one-solve-requires : goal.one_by_one-solve-requires
+one_by_one-solve-requires t c = (omega arith, (c.requires.vars, c.requires.state))
 
-pub refs-returns-then-is_empty : goal.refs-returns-then-is_empty
-refs-returns-then-is_empty t c =
+pub one_by_one-returns-then-is_empty : goal.one_by_one-returns-then-is_empty
+one_by_one-returns-then-is_empty t c =
     let none = eqb-true (length c.args.ps.now) 0 (sym c.is_empty.ensures ∙ c.if-is_empty.true) in
     found_no_pairs c.args.self.now.sig.now (bindings_of c.args.bound.now) c.args.self.now.vars.now (Asked c.args.self.now.sig.now c.args.rest.now c.args.sums.now)
     (references c.args.ps.now) (references c.args.ts.now) (length_references c.args.ps.now ∙ none) (length_references c.args.ps.now ∙ c.requires.lengths ∙ sym (length_references c.args.ts.now)) c.solve.result c.solve.ensures
 
-pub refs-pair-requires : goal.refs-pair-requires
-refs-pair-requires t c =
+pub one_by_one-pair-requires : goal.one_by_one-pair-requires
+one_by_one-pair-requires t c =
     let some = not_zero (length c.args.ps.now) (sym c.is_empty.ensures ∙ c.if-is_empty.false) in
-    let z = (refs_parted c.args.ps.now c.args.ts.now c.index-ps-0.result c.index-ts-0.result some c.requires.lengths c.index-ps-0.is c.index-ts-0.is (IsPair c.args.self.now.sig.now)).0 c.requires.pairs in
-    let w = refs_weight c.args.ps.now c.args.ts.now c.index-ps-0.result c.index-ts-0.result some c.requires.lengths c.index-ps-0.is c.index-ts-0.is in (
+    let z = (pairs_parted c.args.ps.now c.args.ts.now c.index-ps-0.result c.index-ts-0.result some c.requires.lengths c.index-ps-0.is c.index-ts-0.is (IsPair c.args.self.now.sig.now)).0 c.requires.pairs in
+    let w = pairs_weight c.args.ps.now c.args.ts.now c.index-ps-0.result c.index-ts-0.result some c.requires.lengths c.index-ps-0.is c.index-ts-0.is in (
       omega (arith, w),
       (c.requires.vars, (z.0, record { pairs = (z.1, c.requires.state.pairs); sums = c.requires.state.sums; values = c.requires.state.values })),
     )
 
-pub refs-returns : goal.refs-returns
-refs-returns t c =
+pub one_by_one-returns : goal.one_by_one-returns
+one_by_one-returns t c =
     let some = not_zero (length c.args.ps.now) (sym c.is_empty.ensures ∙ c.if-is_empty.false) in
-    found_refs c.args.ps.now c.args.ts.now c.index-ps-0.result c.index-ts-0.result some c.requires.lengths c.index-ps-0.is c.index-ts-0.is
+    found_pairs c.args.ps.now c.args.ts.now c.index-ps-0.result c.index-ts-0.result some c.requires.lengths c.index-ps-0.is c.index-ts-0.is
     c.args.self.now.sig.now (bindings_of c.args.bound.now) c.args.self.now.vars.now (Asked c.args.self.now.sig.now c.args.rest.now c.args.sums.now) c.pair.result c.pair.ensures
 
 -- a pair
@@ -301,9 +301,9 @@ summed-summands-requires-clause-settled t c = c.requires.pair.target
 pub summed-count_pieces-requires : goal.summed-count_pieces-requires
 summed-count_pieces-requires t c = subst InOrder (sym c.summands.ensures) (parts_in_order c.args.self.now.sig.now c.args.f c.args.t.now c.requires.pair.target)
 
-pub summed-returns-then-is_sorted_above : goal.summed-returns-then-is_sorted_above
-summed-returns-then-is_sorted_above t c =
-    refused_above c.args.self.now.sig.now c.recall_good.ensures c.args.p.now c.args.t.now c.requires.pair (c.is_sorted_above.ensures c.if-is_sorted_above.true) (bindings_of c.args.bound.now) c.args.self.now.vars.now
+pub summed-returns-then-lacks_sort : goal.summed-returns-then-lacks_sort
+summed-returns-then-lacks_sort t c =
+    refused_unsorted c.args.self.now.sig.now c.recall_good.ensures c.args.p.now c.args.t.now c.requires.pair (c.lacks_sort.ensures c.if-lacks_sort.true) (bindings_of c.args.bound.now) c.args.self.now.vars.now
     (Asked c.args.self.now.sig.now c.args.rest.now c.args.sums.now)
 
 pub summed-solve-requires : goal.summed-solve-requires
@@ -338,12 +338,12 @@ summed-returns t c =
     (bindings_of c.args.bound.now) c.args.self.now.vars.now c.args.rest.now _ c.args.sums.now c.solve.result c.solve.ensures (λ v. (λ h. h, λ h. h))
 
 -- a sum
-pub sum-is_short-requires : goal.sum-is_short-requires
-sum-is_short-requires t c = c.requires.state.sum_fits
+pub sum-is_hopeless-requires : goal.sum-is_hopeless-requires
+sum-is_hopeless-requires t c = c.requires.state.sum_fits
 
-pub sum-returns-then-is_short : goal.sum-returns-then-is_short
-sum-returns-then-is_short t c =
-    refused_short c.args.self.now.sig.now (bindings_of c.args.bound.now) c.args.self.now.vars.now c.args.goal.now c.requires.state.sum_fits (SumsHold c.args.self.now.sig.now c.args.sums.now) (c.is_short.ensures c.if-is_short.true)
+pub sum-returns-then-is_hopeless : goal.sum-returns-then-is_hopeless
+sum-returns-then-is_hopeless t c =
+    refused_hopeless c.args.self.now.sig.now (bindings_of c.args.bound.now) c.args.self.now.vars.now c.args.goal.now c.requires.state.sum_fits (SumsHold c.args.self.now.sig.now c.args.sums.now) (c.is_hopeless.ensures c.if-is_hopeless.true)
 
 pub sum-pick-requires : goal.sum-pick-requires
 sum-pick-requires t c = (
@@ -598,6 +598,24 @@ choose-returns-in-None t c =
     let d = c.args.self.now.sig.now in
     let w = subst (IsWhole d c.args.goal.now c.args.chosen.now) c.in-None.is c.in_ok-whole.ensures in
     refused_whole d c.args.goal.now c.requires.state.sum_fits c.args.chosen.now c.requires.long (bindings_of c.args.bound.now) c.args.self.now.vars.now c.args.p.now c.args.k c.args.sums.now w
+
+pub choose-may_make-requires-clause-pair : goal.choose-may_make-requires-clause-pair
+choose-may_make-requires-clause-pair t c =
+    let d = c.args.self.now.sig.now in
+    let fit = c.requires.state.sum_fits in
+    let w = subst (IsWhole d c.args.goal.now c.args.chosen.now) c.in-Some.is c.in_ok-whole.ensures in
+    let flat_p = (subst (AllByRecursion (IsFlatOf d (kind d fit.rank.result))) c.requires.group.first fit.patterns).0 in
+    whole_pair d c.args.goal.now fit c.args.chosen.now c.requires.long (bindings_of c.args.bound.now) c.args.self.now.vars.now c.args.p.now c.args.k c.args.sums.now c.in-Some.t w c.recall_good.ensures.fits flat_p
+
+pub choose-may_make-requires-clause-values : goal.choose-may_make-requires-clause-values
+choose-may_make-requires-clause-values t c = c.requires.state.values
+
+pub choose-returns-then-not-may : goal.choose-returns-then-not-may
+choose-returns-then-not-may t c =
+    let d = c.args.self.now.sig.now in
+    let w = subst (IsWhole d c.args.goal.now c.args.chosen.now) c.in-Some.is c.in_ok-whole.ensures in
+    refused_made d c.args.goal.now c.requires.state.sum_fits c.args.chosen.now c.requires.long (bindings_of c.args.bound.now) c.args.self.now.vars.now c.args.p.now c.args.k c.args.sums.now c.in-Some.t w
+    (c.in_ok-may.ensures c.if-not-may.true)
 
 pub choose-pair-requires : goal.choose-pair-requires
 choose-pair-requires t c =

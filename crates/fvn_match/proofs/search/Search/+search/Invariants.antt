@@ -13,8 +13,8 @@ decreases-solve l = 4 * (goals_weight l.goals.now + sums_weight l.sums.now)
 abbrev pub decreases-lists : goal.decreases-lists
 decreases-lists l = 4 * (weight_of l.ps.now + goals_weight l.rest.now + sums_weight l.sums.now) + 2
 
-abbrev pub decreases-refs : goal.decreases-refs
-decreases-refs l = 4 * (weight_of (references l.ps.now) + goals_weight l.rest.now + sums_weight l.sums.now) + 1
+abbrev pub decreases-one_by_one : goal.decreases-one_by_one
+decreases-one_by_one l = 4 * (weight_of (references l.ps.now) + goals_weight l.rest.now + sums_weight l.sums.now) + 1
 
 abbrev pub decreases-pair : goal.decreases-pair
 decreases-pair l = 4 * (weight l.p.now + goals_weight l.rest.now + sums_weight l.sums.now) + 2

@@ -1,0 +1,35 @@
+//! What a search has gone through so far.
+//!
+//! It is no part of what is searched: no clause speaks of it, and no answer depends on it.
+
+use fvn_combine_drawing::SolvedSystems;
+use std::alloc::Global;
+
+/// Sum systems that were solved, how many states were looked at, and how many choices were tried.
+#[derive(Drop)]
+pub(crate) struct Effort {
+    pub(crate) solved: SolvedSystems,
+    pub(crate) states: u64,
+    pub(crate) choices: u64,
+}
+
+impl Effort {
+    // Nothing yet.
+    pub(crate) fn new(alloc: Global) -> Effort {
+        Effort {
+            solved: SolvedSystems::new(alloc),
+            states: 0,
+            choices: 0,
+        }
+    }
+
+    // One state more is looked at.
+    pub(crate) fn count_state(&mut self) {
+        self.states = self.states.saturating_add(1);
+    }
+
+    // One choice more is tried.
+    pub(crate) fn count_choice(&mut self) {
+        self.choices = self.choices.saturating_add(1);
+    }
+}
