@@ -49,9 +49,10 @@ search A0 A1 k h A2 l = f h h A3 l => few | 2 1
 search A0 A1 k = A2 f k; A0 A3 l = A4 f l => few | 8 13
 search A0 A1 l A2 m A3 l = f => few | 24 10";
 
-// The same over sums that are not neutral, with elements: an element is one summand at most.
+// The same over sums that are not neutral, with elements: an element is one summand at most. Six elements are split in
+// two in 64 ways, of which each is a choice, and nothing is asked: a row with no room shows both numbers as they are.
 const SEARCHED_WITH_ELEMENTS: &str = "search A0 A1 l = B2 B3 l B4 l => few | 1 8
-search A0 A1 l = B2 B3 l B4 l B5 l B6 l B7 l => few | 1 64
+search A0 A1 l = B2 B3 l B4 l B5 l B6 l B7 l => 1 64 | 0 0
 search B0 A1 l = B2 A3 l => few | 1 4
 search B0 B1 l = B2 B3 l => few | 7 2
 search B0 f l = B1 A2 l => few | 7 2
