@@ -28,3 +28,4 @@ mod Matchers
 mod TwoLists
 mod KeptHeads
 mod TakingApart
+mod Commuting
