@@ -1,25 +1,19 @@
 -- Commutative pairs of which one order of the targets is left.
-use Rattle.std.proofs.Common.{◌≡◌, ◌+◌, Bool, true, false, List, [], ◌∷◌, length, Some, refl, sym, ap, ◌∙◌, subst, inl, inr, arith}
+use Rattle.std.proofs.Common.{◌≡◌, ◌+◌, Bool, true, false, List, [], ◌∷◌, length, Some, sym, ap, ◌∙◌, subst, inl, inr, arith}
 use Rattle.std.specs.Prelude.{◌↔◌, ◌⊎◌}
 use Rattle.std.specs.List.{AllZip}
 use Rattle.fvn_terms.specs.declared.plain.Var.{Var}
 use Rattle.fvn_terms.specs.declared.plain.OpId.{OpId}
 use Rattle.fvn_terms.specs.declared.declarations.Axioms.TheVariants.{Comm}
 use Rattle.fvn_terms.specs.declared.declarations.Declarations.{Declarations}
-use Rattle.fvn_terms.specs.Term.{Term, Terms, var, app, none, more}
-use Rattle.fvn_terms.specs.Substitution.{Occurs, OccursAmong}
 use Rattle.fvn_terms.specs.Signature.{axioms}
-use Rattle.fvn_forms.specs.Flat.{FlatTerm, fvar, plain}
-use Rattle.fvn_forms.specs.Canon.{build, eval, eval_all, inst}
-use Rattle.fvn_forms.specs.Settled.{Settled}
+use Rattle.fvn_forms.specs.Flat.{FlatTerm, fvar}
+use Rattle.fvn_forms.specs.Canon.{inst}
 use Rattle.fvn_forms.specs.FitsKinds.{FitsKinds}
-use Rattle.fvn_forms.proofs.Eval.{canon_plain}
 use Rattle.fvn_flat.specs.Bindings.{Bindings}
 use Rattle.fvn_flat.specs.Forms.{head_of, args_of}
-use Rattle.fvn_match.specs.inner.Variables.{IsClosed}
 use Rattle.fvn_match.specs.inner.Candidates.{Values, IsCandidate, Agrees}
 use Rattle.fvn_match.specs.inner.Goals.{AllMake, IsPair, weight, weight_of}
-use Rattle.fvn_match.specs.inner.Heads.{IsLost}
 use Rattle.fvn_match.specs.inner.Refusing.{NeverMakes}
 use Rattle.fvn_match.specs.inner.Searching.{crossed, IsCrossing}
 use Rattle.fvn_match.specs.inner.Apart.{HasOther, NeverMakeAll, IsOnlyOrder, values_with, TakesApart}
@@ -28,23 +22,6 @@ use Rattle.fvn_match.proofs.Weights.{weight_args}
 use Rattle.fvn_match.proofs.PairSteps.{commutative_head, crossing, two_patterns, two_targets, commutative_step}
 
 module _ (d : Declarations) where
-  -- values that agree where variables stand in a term
-  mutual
-    eval_agree : (s c : Var → FlatTerm) (t : Term) → ((x : Var) → Occurs x t → s x ≡ c x) → eval d s t ≡ eval d c t
-    eval_agree s c (var x) agree = agree x refl
-    eval_agree s c (app f ts) agree = ap (build d f) (eval_all_agree s c ts agree)
-
-    eval_all_agree : (s c : Var → FlatTerm) (ts : Terms) → ((x : Var) → OccursAmong x ts → s x ≡ c x) → eval_all d s ts ≡ eval_all d c ts
-    eval_all_agree s c none agree = refl
-    eval_all_agree s c (more t ts) agree = ap (λ u. u ∷ eval_all d s ts) (eval_agree s c t (λ x o. agree x (inl o))) ∙ ap (λ l. eval d c t ∷ l) (eval_all_agree s c ts (λ x o. agree x (inr o)))
-
-  -- a form without variables makes itself alone
-  closed_stays : (c : Values) (p : FlatTerm) → Settled d p → IsClosed p → inst d c p ≡ p
-  closed_stays c p settled closed = eval_agree c fvar (plain p) (λ x o. absurd (closed x o)) ∙ canon_plain d p settled
-
-  pub closed_lost : (p t : FlatTerm) → Settled d p → IsClosed p → (p ≡ t → ⊥) → IsLost d p t
-  closed_lost p t settled closed other = λ c k is. other (sym (closed_stays c p settled closed) ∙ is)
-
   -- a variable makes the form alone that it is bound to
   pub other_never : (b : Bindings) (x : Var) (t : FlatTerm) → HasOther b x t → NeverMakes d b (fvar x) t
   other_never b x t h = λ c k agrees is. h.2 (sym (agrees x h.0 h.1) ∙ is)

@@ -12,6 +12,7 @@ mod PairSteps
 mod PairFinding
 mod SumSteps
 mod SumFitting
+mod Closed
 mod KnownSteps
 mod SumFinding
 mod ChoiceFinding

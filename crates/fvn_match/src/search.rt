@@ -347,7 +347,7 @@ impl Search<'_> {
             return Ok(None);
         }
         let seen = bound.count();
-        if !has_known(goal.patterns, bound, seen.saturating_sub(goal.seen)) {
+        if !has_known(goal, bound, seen) {
             let same = SumGoal {
                 op: goal.op,
                 patterns: goal.patterns,

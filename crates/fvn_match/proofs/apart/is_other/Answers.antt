@@ -2,7 +2,7 @@
 use Rattle.std.proofs.Common.{◌≡◌, true, subst}
 use Rattle.std.specs.Prelude.{not}
 use Rattle.std.proofs.lemmas.Bool.{false≢true}
-use Rattle.fvn_match.proofs.Commuting.{closed_lost}
+use Rattle.fvn_match.proofs.Closed.{closed_lost}
 use Rattle.fvn_match.proofs.apart.is_other.Goals as goal
 
 pub heads_allow-may-requires : goal.heads_allow-may-requires
