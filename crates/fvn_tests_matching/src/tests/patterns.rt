@@ -93,7 +93,7 @@ A0 f g j j | g f g j j => A0 g
 A0 f g j j | f f f j j => no
 A0 f g j j, A0 | g f g j j, g => A0 g
 A0 f g j j, A0 | g f g j j, f => no
-A0 A0 f g j j j | g f f f g j j j j => A0 f
+A0 A0 f g j j j | f f f g j j j => A0 f
 
 A; f : -> A; g : -> A; h : A A -> A [comm]; i : A A -> A [assoc comm id: f]
 A0 A1 h, A0 | f f h, f => A0 f; A1 f

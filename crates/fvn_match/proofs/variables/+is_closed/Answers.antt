@@ -6,7 +6,9 @@ use Rattle.fvn_flat.proofs.Smaller.{argument_is_smaller}
 use Rattle.fvn_match.proofs.variables.+is_closed.Goals as goal
 
 pub is_closed-requires : goal.is_closed-requires
-is_closed-requires t c = omega (arith, argument_is_smaller c.args.t.now c.args-u-items.result.now c.loop-u.u-index c.u-item.result c.args-u-items.ensures.exact c.loop-u-test.true c.u-item.is)
+is_closed-requires t c =
+    let smaller = argument_is_smaller c.args.t.now c.args-u-items.result.now c.loop-u.u-index c.u-item.result c.args-u-items.ensures.exact c.loop-u-test.true c.u-item.is in
+    (omega (arith, smaller), tt)
 
 pub loop-u-init : goal.loop-u-init
 loop-u-init t c = λ x o. o
