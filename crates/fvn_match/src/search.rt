@@ -139,7 +139,7 @@ impl Search<'_> {
         self.one_by_one(patterns, targets, known, &*rest, &*sums, &more)
     }
 
-    // Pairs of references, the first of which is to be chosen, or there are none, then other goals.
+    // The first of such pairs, if there are any, then the others and other goals.
     #[cycle(search)]
     fn one_by_one<'x>(
         &self,
