@@ -3,7 +3,7 @@ use Rattle.std.proofs.Common.{◌≡◌, ◌+◌, [], ◌∷◌, sym, ap, ◌∙
 use Rattle.std.proofs.lemmas.Bool.{false≢true}
 use Rattle.fvn_forms.specs.Canon.{inst}
 use Rattle.fvn_match.specs.inner.Goals.{bindings_of, IsPair, weight, weight_of}
-use Rattle.fvn_match.specs.inner.Apart.{IsTakenApart, TakesApart}
+use Rattle.fvn_match.specs.inner.Apart.{values_with, IsOnlyOrder, IsTakenApart, TakesApart}
 use Rattle.fvn_match.proofs.PairSteps.{variable_is, variable_or_head}
 use Rattle.fvn_match.proofs.PairFinding.{zip_long, two_is}
 use Rattle.fvn_match.proofs.Weights.{weight_args}
@@ -76,7 +76,9 @@ pub take_either-take_both-requires : goal.take_either-take_both-requires
 take_either-take_both-requires t c =
     let w = weight_args c.args.p.now c.args.f c.requires.head in
     let v = ap weight_of c.args-ps.ensures.exact in
-    let only = rw c.in-Some.is at c.only_order.ensures in
+    let d = c.args.sig.now in
+    let us = c.in-Some.order.first.now ∷ c.in-Some.order.second.now ∷ [] in
+    let only : IsOnlyOrder d (values_with d (bindings_of c.args.bound.now) c.args.self.now) c.args-ps.result.now c.args-ts.result.now us = c.in-Some.ensures in
     let two =
     both_patterns c.args.sig.now (bindings_of c.args.bound.now) c.recall_good.ensures.fits c.args.f c.args.p.now c.args.t.now c.requires.pair c.requires.head c.requires.commutative
     (c.is_headed-shared.ensures.0 c.if-not-shared.false) c.args-ps.result.now c.args-ts.result.now c.args-ps.ensures.exact c.args-ts.ensures.exact in
@@ -86,7 +88,7 @@ pub take_either-returns : goal.take_either-returns
 take_either-returns t c =
     taken_in_order c.args.sig.now (bindings_of c.args.bound.now) c.recall_good.ensures.fits c.args.f c.args.p.now c.args.t.now c.requires.pair c.requires.head c.requires.commutative
     (c.is_headed-shared.ensures.0 c.if-not-shared.false) c.args-ps.result.now c.args-ts.result.now c.args-ps.ensures.exact c.args-ts.ensures.exact
-    c.args.self.now c.take_both.new.self (c.in-Some.order.first.now ∷ c.in-Some.order.second.now ∷ []) (rw c.in-Some.is at c.only_order.ensures) c.in_ok-both.both c.in_ok-both.ensures
+    c.args.self.now c.take_both.new.self (c.in-Some.order.first.now ∷ c.in-Some.order.second.now ∷ []) c.in-Some.ensures c.in_ok-both.both c.in_ok-both.ensures
 
 -- two pairs
 pub take_both-take-requires : goal.take_both-take-requires
