@@ -80,7 +80,7 @@ pub(crate) fn without_known<'a>(
     alloc: Global,
     sig: &Signature,
     goal: &SumGoal<'a>,
-    bound: &Bound<'_>,
+    bound: &'a Bound<'a>,
 ) -> Result<Option<Open<'a>>, NoMemory>
     requires fits { SumFits sig.now goal.now }
     requires bound { IsCandidate sig.now (value (bindings_of bound.now)) }
