@@ -12,6 +12,7 @@ mod PairSteps
 mod PairFinding
 mod SumSteps
 mod SumFitting
+mod Closed
 mod KnownSteps
 mod SumFinding
 mod ChoiceFinding
@@ -28,3 +29,4 @@ mod Matchers
 mod TwoLists
 mod KeptHeads
 mod TakingApart
+mod Commuting

@@ -123,45 +123,28 @@ two_is (u ∷ []) x y two p q = absurd (omega arith)
 two_is (u ∷ v ∷ []) x y two p q = ap (λ z. z ∷ v ∷ []) (sym p) ∙ ap (λ z. x ∷ z ∷ []) (sym q)
 two_is (u ∷ v ∷ w ∷ ws) x y two p q = absurd (omega arith)
 
--- two pairs, in one way or the other
-module _ (d : Declarations) (b : Bindings) (vars : List Var) (p q t u : FlatTerm) (X : Values → Type 0) where
+-- two pairs, in one order of the targets or in the other
+module _ (d : Declarations) (b : Bindings) (vars : List Var) (ps ts : List FlatTerm) (t u : FlatTerm) (ts_are : ts ≡ t ∷ u ∷ []) (X : Values → Type 0) where
   abbrev pub Straight : Values → Type 0
-  Straight c = (inst d c p ≡ t) × ((inst d c q ≡ u) × X c)
+  Straight c = AllMake d ps (t ∷ u ∷ []) c × X c
 
   abbrev pub Across : Values → Type 0
-  Across c = (inst d c p ≡ u) × ((inst d c q ≡ t) × X c)
+  Across c = AllMake d ps (u ∷ t ∷ []) c × X c
 
   abbrev pub EitherWay : Values → Type 0
-  EitherWay c = (AllMake d (p ∷ q ∷ []) (t ∷ u ∷ []) c ⊎ AllMake d (p ∷ q ∷ []) (u ∷ t ∷ []) c) × X c
+  EitherWay c = (AllMake d ps ts c ⊎ AllMake d ps (crossed ts) c) × X c
 
   pub found_straight : (r : Option Bindings) → is_some r ≡ true → Finds vars (IsSolution d b Straight) r → Finds vars (IsSolution d b EitherWay) r
-  found_straight r e f = found_first vars d b Straight EitherWay (λ c k a h. (inl (h.0, (h.1.0, tt)), h.1.1)) r e f
+  found_straight r e f = found_first vars d b Straight EitherWay (λ c k a h. (inl (subst (λ m. AllMake d ps m c) (sym ts_are) h.0), h.1)) r e f
 
   pub found_across : (r : Option Bindings) → is_some r ≡ false → Finds vars (IsSolution d b Straight) r → {E : Type 0} (s : Result (Option Bindings) E) → IfOk s (Finds vars (IsSolution d b Across)) → IfOk s (Finds vars (IsSolution d b EitherWay))
-  found_across r e f s g = if_found_same vars d b Across EitherWay (λ c k a. (λ h. (inr (h.0, (h.1.0, tt)), h.1.1), λ h. only c k a h.0 h.1)) s g
+  found_across r e f s g =
+      if_found_same vars d b Across EitherWay
+      (λ c k a. (λ h. (inr (subst (λ m. AllMake d ps (crossed m) c) (sym ts_are) h.0), h.1), λ h. only c k a h.0 h.1)) s g
     where
-      only : (c : Values) → IsCandidate d c → Agrees b c → AllMake d (p ∷ q ∷ []) (t ∷ u ∷ []) c ⊎ AllMake d (p ∷ q ∷ []) (u ∷ t ∷ []) c → X c → Across c
-      only c k a (inl h) x = absurd (found_none vars d b Straight r e f c k a (h.0, (h.1.0, x)))
-      only c k a (inr h) x = (h.0, (h.1.0, x))
-
-  -- the same for lists of two
-  module _ (ps ts : List FlatTerm) (ps_are : ps ≡ p ∷ q ∷ []) (ts_are : ts ≡ t ∷ u ∷ []) where
-    abbrev pub OfLists : List FlatTerm → List FlatTerm → Values → Type 0
-    OfLists l m c = (AllMake d l m c ⊎ AllMake d l (crossed m) c) × X c
-
-    pub found_straight_of : (r : Option Bindings) → is_some r ≡ true → Finds vars (IsSolution d b Straight) r → Finds vars (IsSolution d b (OfLists ps ts)) r
-    found_straight_of r e f =
-        subst (λ l. Finds vars (IsSolution d b (OfLists l ts)) r) (sym ps_are) (subst (λ m. Finds vars (IsSolution d b (OfLists (p ∷ q ∷ []) m)) r) (sym ts_are) (found_straight r e f))
-
-    pub found_across_of : (r : Option Bindings) → is_some r ≡ false → Finds vars (IsSolution d b Straight) r → {E : Type 0} (s : Result (Option Bindings) E) → IfOk s (Finds vars (IsSolution d b Across)) → IfOk s (Finds vars (IsSolution d b (OfLists ps ts)))
-    found_across_of r e f s g =
-        subst (λ l. IfOk s (Finds vars (IsSolution d b (OfLists l ts)))) (sym ps_are) (subst (λ m. IfOk s (Finds vars (IsSolution d b (OfLists (p ∷ q ∷ []) m)))) (sym ts_are) (found_across r e f s g))
-
-    pub crossing_pairs : IsCrossing d ps ts → IsPair d p t × (IsPair d q u × (IsPair d p u × IsPair d q t))
-    crossing_pairs h =
-        let s = subst (λ l. AllZip (IsPair d) l (t ∷ u ∷ [])) ps_are (subst (AllZip (IsPair d) ps) ts_are h.straight) in
-        let a = subst (λ l. AllZip (IsPair d) l (u ∷ t ∷ [])) ps_are (subst (λ m. AllZip (IsPair d) ps (crossed m)) ts_are h.across) in
-        (s.0, (s.1.0, (a.0, a.1.0)))
+      only : (c : Values) → IsCandidate d c → Agrees b c → AllMake d ps ts c ⊎ AllMake d ps (crossed ts) c → X c → Across c
+      only c k a (inl h) x = absurd (found_none vars d b Straight r e f c k a (subst (λ m. AllMake d ps m c) ts_are h, x))
+      only c k a (inr h) x = (subst (λ m. AllMake d ps (crossed m) c) ts_are h, x)
 
 -- nothing is asked, and the values so far do it
 pub found_values : (d : Declarations) (b : Bindings) (vars : List Var) (s : Bindings) → IsCandidate d (value b) → s ≡ pairs_of vars (value b) → Finds vars (IsSolution d b (λ c. Unit {0})) (Some s)

@@ -20,7 +20,7 @@ use Rattle.fvn_match.specs.inner.Choices.{quotients, reduced}
 use Rattle.fvn_match.specs.inner.Tallies.{tally, repeated, AreDistinct, AddsUp}
 use Rattle.fvn_match.specs.inner.Candidates.{Values}
 use Rattle.fvn_match.specs.inner.Goals.{SumsHold, Asked}
-use Rattle.fvn_match.specs.declared.goals.Goals.{Goals, Done, Lists', Pairs', Pair'}
+use Rattle.fvn_match.specs.declared.goals.Goals.{Goals, Done, Lists', Pairs'}
 use Rattle.fvn_match.specs.declared.goals.Sums.{Sums}
 use Rattle.fvn_match.proofs.Advancing.{sum-cons}
 use Rattle.fvn_match.proofs.Tallies.{count_repeated, length_repeated, each_repeated, same_length, tally_elsewhere, zeros-tally, tally_none, tally-reduced, fits_quotients, numbers_in, fits_numbers, numbers_make_up}
@@ -32,9 +32,6 @@ asked_more d (Lists' ps ts r rest) more sums X c same =
     let k = asked_more d rest more sums X c same in
     (λ h. let j = k.0 h.1 in (j.0, (h.0, j.1)), λ h. (h.1.0, k.1 (h.0, h.1.1)))
 asked_more d (Pairs' pairs r rest) more sums X c same =
-    let k = asked_more d rest more sums X c same in
-    (λ h. let j = k.0 h.1 in (j.0, (h.0, j.1)), λ h. (h.1.0, k.1 (h.0, h.1.1)))
-asked_more d (Pair' p t r rest) more sums X c same =
     let k = asked_more d rest more sums X c same in
     (λ h. let j = k.0 h.1 in (j.0, (h.0, j.1)), λ h. (h.1.0, k.1 (h.0, h.1.1)))
 

@@ -7,11 +7,13 @@ ghost use Rattle.fvn_match.specs.inner.Goals.{bindings_of, with_bindings, IsBoun
 use fvn_flat::Flat;
 use fvn_terms::{OpId, Var};
 
-// Patterns and their targets, place by place.
+// Patterns and their targets, place by place, which were last taken apart where so many variables were bound as `seen`
+// says.
 #[derive(Clone, Copy)]
 pub(crate) struct Pairs<'a> {
     pub(crate) patterns: &'a [&'a Flat],
     pub(crate) targets: &'a [&'a Flat],
+    pub(crate) seen: usize,
 }
 
 // Pairs of a pattern and its target, which come one after another.
@@ -23,8 +25,6 @@ pub(crate) enum Goals<'a> {
     Lists(&'a [Flat], &'a [Flat], &'a Goals<'a>),
     // The same of references.
     Pairs(Pairs<'a>, &'a Goals<'a>),
-    // A pattern and its target.
-    Pair(&'a Flat, &'a Flat, &'a Goals<'a>),
 }
 
 // Patterns whose summands under the operator are to be different pieces, each so often as its number says.

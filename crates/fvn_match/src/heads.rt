@@ -108,6 +108,18 @@ fn may_stand(sig: &Signature, ps: &[Flat], q: &Flat, ts: &[Flat]) -> bool
     }
 }
 
+// Whether heads leave it open that the pattern has the term as an instance.
+pub(crate) fn heads_allow(sig: &Signature, p: &Flat, t: &Flat) -> bool
+    requires pattern { Fits sig.now p.now }
+    requires target { Fits sig.now t.now }
+    ensures { result ≡ false → IsLost sig.now p.now t.now }
+{
+    match kept_head(sig, p) {
+        None => true,
+        Some(f) => may_keep(sig, f, p, t),
+    }
+}
+
 /// Whether heads leave it open that the pattern has the target as an instance.
 ///
 /// An operator without an identity heads each instance of what it heads. So it heads the target as well, and what such
@@ -120,8 +132,5 @@ pub fn may_match(sig: &Signature, pattern: &Flat, target: &Flat) -> bool
     ensures { result ≡ false → HasNoMatcher sig.now (pattern.now ∷ []) (target.now ∷ []) }
 {
     sig.recall_good();
-    match kept_head(sig, pattern) {
-        None => true,
-        Some(f) => may_keep(sig, f, pattern, target),
-    }
+    heads_allow(sig, pattern, target)
 }

@@ -1,5 +1,5 @@
 //! The search for a matcher: pairs first, then sums.
-ghost use Rattle.std.specs.Prelude.{◌≡◌, ◌*◌, ◌≤◌, length, IfOk};
+ghost use Rattle.std.specs.Prelude.{◌≡◌, ◌*◌, ◌≤◌, [], ◌∷◌, length, IfOk};
 ghost use Rattle.std.specs.List.{AllZip};
 ghost use Rattle.fvn_terms.specs.Signature.{axioms};
 ghost use Rattle.fvn_terms.specs.Equality.{IsAssociative};
@@ -58,10 +58,9 @@ impl Search<'_> {
         ensures { IfOk result (SearchesGoals self.now goals.now sums.now bound.now) }
     {
         match goals {
-            Goals::Pair(p, t, rest) => self.pair(&**p, &**t, &**rest, &*sums, &*bound),
             Goals::Lists(ps, ts, rest) => self.lists(*ps, *ts, &**rest, &*sums, &*bound),
             Goals::Pairs(pairs, rest) => {
-                self.one_by_one(pairs.patterns, pairs.targets, &**rest, &*sums, &*bound)
+                self.again(pairs.patterns, pairs.targets, pairs.seen, &**rest, &*sums, &*bound)
             }
             Goals::Done => match sums {
                 Sums::WithSum(goal, rest) => self.sum(&*goal, &**rest, &*bound),
@@ -89,6 +88,7 @@ impl Search<'_> {
         requires state { StateFits self.now.sig.now rest.now sums.now bound.now }
         ensures { IfOk result (SearchesLists self.now ps.now ts.now rest.now sums.now bound.now) }
     {
+        let seen = bound.count();
         let mut parts = untouched(self.alloc);
         let can = parts.take_all(self.sig, &*bound, &*ps, &*ts)?;
         if !can {
@@ -100,15 +100,52 @@ impl Search<'_> {
             pairs: parts.values.as_slice(),
         };
         let more = Bound::Several(values, &*bound);
-        self.one_by_one(patterns, targets, &*rest, &*sums, &more)
+        self.again(patterns, targets, seen, &*rest, &*sums, &more)
     }
 
-    // The same of references, pair by pair.
+    // Pairs that were kept, taken apart by what was bound since, then other goals.
+    #[cycle(search)]
+    fn again<'x>(
+        &self,
+        ps: &'x [&'x Flat],
+        ts: &'x [&'x Flat],
+        seen: usize,
+        rest: &Goals<'_>,
+        sums: &Sums<'_>,
+        bound: &'x Bound<'x>,
+    ) -> Result<Option<Subst>, NoMemory>
+        requires vars { AreOnce self.now.vars.now }
+        requires lengths { length ps.now ≡ length ts.now }
+        requires pairs { AllZip (IsPair self.now.sig.now) (references ps.now) (references ts.now) }
+        requires state { StateFits self.now.sig.now rest.now sums.now bound.now }
+        ensures { IfOk result (SearchesLists self.now (references ps.now) (references ts.now)
+            rest.now sums.now bound.now) }
+    {
+        let known = bound.count();
+        if known == seen {
+            return self.one_by_one(&*ps, &*ts, seen, &*rest, &*sums, &*bound);
+        }
+        let mut parts = untouched(self.alloc);
+        let can = parts.take_each(self.sig, &*bound, &*ps, &*ts)?;
+        if !can {
+            return Ok(None);
+        }
+        let patterns = parts.patterns.as_slice();
+        let targets = parts.targets.as_slice();
+        let values = Latest {
+            pairs: parts.values.as_slice(),
+        };
+        let more = Bound::Several(values, &*bound);
+        self.one_by_one(patterns, targets, known, &*rest, &*sums, &more)
+    }
+
+    // The first of such pairs, if there are any, then the others and other goals.
     #[cycle(search)]
     fn one_by_one<'x>(
         &self,
         ps: &'x [&'x Flat],
         ts: &'x [&'x Flat],
+        seen: usize,
         rest: &'x Goals<'x>,
         sums: &Sums<'_>,
         bound: &Bound<'_>,
@@ -126,6 +163,7 @@ impl Search<'_> {
         let others = Pairs {
             patterns: &ps[1..],
             targets: &ts[1..],
+            seen,
         };
         let later = Goals::Pairs(others, &*rest);
         self.pair(ps[0], ts[0], &later, &*sums, &*bound)
@@ -205,9 +243,9 @@ impl Search<'_> {
         &self,
         ps: &'x [Flat],
         ts: &'x [Flat],
-        rest: &'x Goals<'x>,
+        rest: &Goals<'_>,
         sums: &Sums<'_>,
-        bound: &Bound<'_>,
+        bound: &'x Bound<'x>,
     ) -> Result<Option<Subst>, NoMemory>
         requires vars { AreOnce self.now.vars.now }
         requires patterns { length ps.now ≡ 2 }
@@ -216,17 +254,46 @@ impl Search<'_> {
         requires state { StateFits self.now.sig.now rest.now sums.now bound.now }
         ensures { IfOk result (SearchesEither self.now ps.now ts.now rest.now sums.now bound.now) }
     {
-        let p = &ps[0];
-        let q = &ps[1];
         let t = &ts[0];
         let u = &ts[1];
-        let later = Goals::Pair(q, u, &*rest);
-        let found = self.pair(p, t, &later, &*sums, &*bound)?;
+        let found = self.way(&*ps, t, u, &*rest, &*sums, &*bound)?;
         if found.is_some() {
             return Ok(found);
         }
-        let across = Goals::Pair(q, t, &*rest);
-        self.pair(p, u, &across, &*sums, &*bound)
+        self.way(&*ps, u, t, &*rest, &*sums, &*bound)
+    }
+
+    // Two pairs in one order of the targets, taken apart as far as there is nothing to choose, then other goals.
+    #[cycle(search)]
+    fn way<'x>(
+        &self,
+        ps: &'x [Flat],
+        t: &'x Flat,
+        u: &'x Flat,
+        rest: &Goals<'_>,
+        sums: &Sums<'_>,
+        bound: &'x Bound<'x>,
+    ) -> Result<Option<Subst>, NoMemory>
+        requires vars { AreOnce self.now.vars.now }
+        requires two { length ps.now ≡ 2 }
+        requires pairs { AllZip (IsPair self.now.sig.now) ps.now (t.now ∷ u.now ∷ []) }
+        requires state { StateFits self.now.sig.now rest.now sums.now bound.now }
+        ensures { IfOk result (SearchesLists self.now ps.now (t.now ∷ u.now ∷ [])
+            rest.now sums.now bound.now) }
+    {
+        let seen = bound.count();
+        let mut parts = untouched(self.alloc);
+        let can = parts.take_both(self.sig, &*bound, &*ps, &*t, &*u)?;
+        if !can {
+            return Ok(None);
+        }
+        let patterns = parts.patterns.as_slice();
+        let targets = parts.targets.as_slice();
+        let values = Latest {
+            pairs: parts.values.as_slice(),
+        };
+        let more = Bound::Several(values, &*bound);
+        self.again(patterns, targets, seen, &*rest, &*sums, &more)
     }
 
     // Other goals, then the summands of a pair.
@@ -280,7 +347,7 @@ impl Search<'_> {
             return Ok(None);
         }
         let seen = bound.count();
-        if !has_known(goal.patterns, bound, seen.saturating_sub(goal.seen)) {
+        if !has_known(goal, bound, seen) {
             let same = SumGoal {
                 op: goal.op,
                 patterns: goal.patterns,
@@ -290,7 +357,7 @@ impl Search<'_> {
             };
             return self.pick(&same, &*sums, &*bound);
         }
-        let open = match without_known(self.alloc, self.sig, goal, bound)? {
+        let open = match without_known(self.alloc, self.sig, &*goal, &*bound)? {
             None => return Ok(None),
             Some(open) => open,
         };

@@ -1,9 +1,9 @@
-//! The variables of patterns.
-ghost use Rattle.std.specs.Prelude.{◌≡◌, ◌++◌, map, IfOk};
+//! The variables of patterns, and whether there are any.
+ghost use Rattle.std.specs.Prelude.{◌≡◌, ◌++◌, map, IsTrue, IfOk};
 ghost use Rattle.fvn_terms.specs.Substitution.{Occurs};
 ghost use Rattle.fvn_terms.specs.Variants.{OccursInSome};
 ghost use Rattle.fvn_forms.specs.Flat.{plain};
-ghost use Rattle.fvn_match.specs.inner.Variables.{AreOnce, Collects, AreVariablesOf};
+ghost use Rattle.fvn_match.specs.inner.Variables.{AreOnce, Collects, AreVariablesOf, IsClosed};
 
 use fvn_flat::{Flat, is_listed};
 use fvn_terms::{NoMemory, Var};
@@ -67,4 +67,21 @@ pub(crate) fn variables(
     let some = with_all_variables(none, patterns)?;
     let all = with_all_variables(some, others)?;
     Ok(all)
+}
+
+// Whether no variable stands in the term.
+pub(crate) fn is_closed(t: &Flat) -> bool
+    ensures { IsTrue result → IsClosed t.now }
+{
+    match t.as_var() {
+        Some(_) => false,
+        None => {
+            for u in t.args() {
+                if !is_closed(u) {
+                    return false;
+                }
+            }
+            true
+        }
+    }
 }

@@ -1,11 +1,14 @@
 -- What is left of pairs that were taken apart.
-use Rattle.std.specs.Prelude.{◌≡◌, ◌↔◌, ◌≤◌, ℕ, ◌+◌, Bool, true, false, List, []}
+use Rattle.std.specs.Prelude.{◌≡◌, ◌⊎◌, ◌↔◌, ◌≤◌, ℕ, ◌+◌, Bool, true, false, List, [], Some}
 use Rattle.std.specs.List.{AllZip}
+use Rattle.fvn_terms.specs.declared.plain.Var.{Var}
 use Rattle.fvn_terms.specs.declared.declarations.Declarations.{Declarations}
-use Rattle.fvn_flat.specs.Bindings.{Bindings, value}
+use Rattle.fvn_forms.specs.Flat.{FlatTerm}
+use Rattle.fvn_flat.specs.Bindings.{Bindings, bound, value}
 use Rattle.fvn_match.specs.inner.Summands.{references}
 use Rattle.fvn_match.specs.inner.Candidates.{Values, IsCandidate, Agrees}
 use Rattle.fvn_match.specs.inner.Goals.{AllMake, IsPair, with_bindings, weight_of}
+use Rattle.fvn_match.specs.inner.Searching.{crossed}
 use Rattle.fvn_match.specs.declared.apart.Apart.{Apart}
 
 -- nothing was taken apart
@@ -14,7 +17,22 @@ pub record IsUntouched (a : Apart) : Type 0 where
   pub patterns : a.patterns.items ≡ []
   pub targets : a.targets.items ≡ []
 
+-- x is bound to another form
+abbrev pub HasOther : Bindings → Var → FlatTerm → Type 0
+HasOther b x t = (v : FlatTerm) × (bound b x ≡ Some v) × (v ≡ t → ⊥)
+
 module _ (d : Declarations) (b : Bindings) where
+  -- no candidate with the values that were bound makes all forms of the patterns
+  abbrev pub NeverMakeAll : List FlatTerm → List FlatTerm → Type 0
+  NeverMakeAll ps ts = (c : Values) → IsCandidate d c → Agrees b c → AllMake d ps ts c → ⊥
+
+  -- just where the patterns make the targets ts in either order they make us, which are of their kinds
+  pub record IsOnlyOrder (ps ts us : List FlatTerm) : Type 0 where
+    pub pairs : AllZip (IsPair d) ps us
+    pub asks :
+        (c : Values) → IsCandidate d c → Agrees b c →
+        (AllMake d ps ts c ⊎ AllMake d ps (crossed ts) c) ↔ AllMake d ps us c
+
   -- all values: those from before, and those that were found
   abbrev pub values_with : Apart → Bindings
   values_with a = with_bindings b a.values.items

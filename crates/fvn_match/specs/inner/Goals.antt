@@ -17,7 +17,7 @@ use Rattle.fvn_match.specs.inner.Tallies.{repeated, AreDistinct, AddsUp}
 use Rattle.fvn_match.specs.inner.Summands.{references}
 use Rattle.fvn_match.specs.inner.Candidates.{Values, IsCandidate}
 use Rattle.fvn_match.specs.declared.goals.Binding.{Binding}
-use Rattle.fvn_match.specs.declared.goals.Goals.{Goals, Done, Lists', Pairs', Pair'}
+use Rattle.fvn_match.specs.declared.goals.Goals.{Goals, Done, Lists', Pairs'}
 use Rattle.fvn_match.specs.declared.goals.SumGoal.{SumGoal}
 use Rattle.fvn_match.specs.declared.goals.Sums.{Sums, NoSum, WithSum'}
 use Rattle.fvn_match.specs.declared.goals.Bound.{Bound, Nothing, Bind', Several'}
@@ -65,7 +65,6 @@ module _ (d : Declarations) where
   Asked (Lists' ps ts r rest) sums c = AllMake ps.now ts.now c × Asked rest sums c
   Asked (Pairs' pairs r rest) sums c =
       AllMake (references pairs.patterns.now) (references pairs.targets.now) c × Asked rest sums c
-  Asked (Pair' p t r rest) sums c = (inst d c p.now ≡ t.now) × Asked rest sums c
 
   -- what k copies of a pattern ask that are to be this choice of the pieces of a sum, and the other patterns, and then sums
   abbrev pub ChoiceAsked : SumGoal → FlatTerm → ℕ → List ℕ → Sums → Values → Type 0
@@ -86,7 +85,6 @@ module _ (d : Declarations) where
   GoalsFit (Lists' ps ts r rest) = AllZip IsPair ps.now ts.now × GoalsFit rest
   GoalsFit (Pairs' pairs r rest) =
       AllZip IsPair (references pairs.patterns.now) (references pairs.targets.now) × GoalsFit rest
-  GoalsFit (Pair' p t r rest) = IsPair p.now t.now × GoalsFit rest
 
   -- a flat form of the kind
   pub record IsFlatOf (k : SortId) (t : FlatTerm) : Type 0 where
@@ -137,7 +135,6 @@ abbrev pub goals_weight : Goals → ℕ
 goals_weight Done = 0
 goals_weight (Lists' ps ts r rest) = weight_of ps.now + 1 + goals_weight rest
 goals_weight (Pairs' pairs r rest) = weight_of (references pairs.patterns.now) + 1 + goals_weight rest
-goals_weight (Pair' p t r rest) = weight p.now + 1 + goals_weight rest
 
 -- that of a sum
 abbrev pub sum_weight : SumGoal → ℕ

@@ -1,9 +1,11 @@
 -- Patterns of a sum whose values are known.
 use Rattle.std.specs.Prelude.{◌≡◌, ◌≤◌, ◌↔◌, length, sum as std_sum, Option, Some, None}
 use Rattle.fvn_terms.specs.declared.declarations.Declarations.{Declarations}
-use Rattle.fvn_forms.specs.Flat.{FlatTerm, fvar, fapp}
+use Rattle.fvn_forms.specs.Flat.{FlatTerm}
 use Rattle.fvn_forms.specs.InOrder.{count}
-use Rattle.fvn_flat.specs.Bindings.{Bindings, bound}
+use Rattle.fvn_forms.specs.Canon.{inst}
+use Rattle.fvn_forms.specs.Settled.{Settled}
+use Rattle.fvn_flat.specs.Bindings.{Bindings}
 use Rattle.fvn_match.specs.inner.Tallies.{AddsUp}
 use Rattle.fvn_match.specs.inner.Summands.{references}
 use Rattle.fvn_match.specs.inner.Candidates.{Values, Agrees, IsCandidate}
@@ -11,10 +13,9 @@ use Rattle.fvn_match.specs.inner.Goals.{pieces_of, SumHolds, weight_of, patterns
 use Rattle.fvn_match.specs.declared.goals.SumGoal.{SumGoal}
 use Rattle.fvn_match.specs.declared.known.Open.{Open}
 
--- the value of a bound variable
-abbrev pub known_value : Bindings → FlatTerm → Option FlatTerm
-known_value b (fvar x) = bound b x
-known_value b (fapp f joined ts) = None
+-- in each signature in which the pattern is flat, all values that agree make this form of it
+abbrev pub IsKnown : Bindings → FlatTerm → FlatTerm → Type 0
+IsKnown b p v = (d : Declarations) → Settled d p → (c : Values) → Agrees b c → inst d c p ≡ v
 
 -- what is said of a sum under the values that were bound
 module _ (d : Declarations) (b : Bindings) (goal : SumGoal) where

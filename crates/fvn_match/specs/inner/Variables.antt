@@ -1,6 +1,7 @@
 -- Lists of variables.
 use Rattle.std.specs.Prelude.{◌≡◌, ◌⊎◌, ◌↔◌, List, [], ◌∷◌, map}
 use Rattle.fvn_terms.specs.declared.plain.Var.{Var}
+use Rattle.fvn_terms.specs.Substitution.{Occurs}
 use Rattle.fvn_terms.specs.Variants.{OccursInSome}
 use Rattle.fvn_forms.specs.Flat.{FlatTerm, plain}
 
@@ -23,3 +24,7 @@ pub record Collects (before : List Var) (P : Var → Type 0) (after : List Var) 
 pub record AreVariablesOf (patterns : List FlatTerm) (vars : List Var) : Type 0 where
   pub once : AreOnce vars
   pub just : (x : Var) → IsAmong vars x ↔ OccursInSome x (map plain patterns)
+
+-- no variable stands in the form
+abbrev pub IsClosed : FlatTerm → Type 0
+IsClosed t = (x : Var) → Occurs x (plain t) → ⊥

@@ -9,10 +9,10 @@ use fvn_terms::NoMemory;
 // A term is written with each operator after its arguments, a variable as the letter of its sort and a
 // number. The summands of a flat sum stand in square brackets. Kinds have the letters after the sorts.
 //
-// The signatures are: a free operator; a free, a commutative operator and a sum; sets of elements with the
-// empty set; numbers and sets of them with a sum that has no identity; two sums, one with an identity; three
-// sums, two with one identity and one with another; two free operators on two sorts; even and odd numbers; a
-// partial operator.
+// The signatures are: a free operator; a free, a commutative operator and a sum; a commutative operator and a
+// sum with an identity; sets of elements with the empty set; numbers and sets of them with a sum that has no
+// identity; two sums, one with an identity; three sums, two with one identity and one with another; two free
+// operators on two sorts; even and odd numbers; a partial operator.
 const ROWS: &str = "A; f : -> A; g : -> A; h : A A -> A
 A0 | f => A0 f
 A0 | A0 => A0 A0
@@ -45,6 +45,20 @@ A0 A0 i | A1 A1 i => A0 A1
 A0 f i A1 i | f g i g i => A1 g; A0 g
 A0 f i, A0 | f g i, g => A0 g
 A0 f i, A0 | f g i, f => no
+A0 A1 i | f f i => A0 f; A1 f
+A0, A0 A1 i | g, f g i => A0 g; A1 f
+A0, A0 A1 i | f h, f g i => no
+A0, A1, A0 A1 i | f, f, f g i => no
+A0 A1 i, A0 | f g i, f h => no
+A0 A1 i, A1 A2 i, A2 A3 i, A3 | f g i, f g i, f g i, f => A0 g; A1 f; A2 g; A3 f
+A0 h A1 h i, A0 | f h g h i, g => A0 g; A1 f
+A0 f i g i | f h f i g i => A0 h(f)
+A0 f i A1 i | f g i f h f i i => yes
+A0 A1 i A2 f i i, A2 | f g i g h f i i, g h => A2 h(g)
+A0 A1 i A2 A3 i i | f g i f g i i => yes
+A0~ f i~, A0~ g i~ | g~ f i~, g~ g i~ => A0 g
+A0~ f i~, A0~ g i~ | g~ f i~, f~ g i~ => no
+A0~ f i~, A0~ f i~, A0~ f i~, A0~ f i~, A0~ f i~, A0~ f i~, A0~ f i~, A0~ f i~, A0~ f i~, A0~ f i~, A0~ f i~, A0~ f i~, A0~ f i~, A0~ f i~, A0~ f i~, A0~ f i~, A0~ f i~, A0~ f i~, A0~ f i~, A0~ f i~, A0~ f i~, A0~ f i~, A0~ f i~, A0~ f i~, A0~ f i~, A0~ f i~, A0~ f i~, A0~ f i~, A0~ f i~, A0~ f i~, A0~ f i~, A0~ f i~, A0~ f i~, A0~ f i~, A0~ f i~, A0~ f i~, A0~ f i~, A0~ f i~, A0~ f i~, A0~ f i~ | g~ f i~, g~ f i~, g~ f i~, g~ f i~, g~ f i~, g~ f i~, g~ f i~, g~ f i~, g~ f i~, g~ f i~, g~ f i~, g~ f i~, g~ f i~, g~ f i~, g~ f i~, g~ f i~, g~ f i~, g~ f i~, g~ f i~, g~ f i~, g~ f i~, g~ f i~, g~ f i~, g~ f i~, g~ f i~, g~ f i~, g~ f i~, g~ f i~, g~ f i~, g~ f i~, g~ f i~, g~ f i~, g~ f i~, g~ f i~, g~ f i~, g~ f i~, g~ f i~, g~ f i~, g~ f i~, g~ f i~ => A0 g
 A0 A1 i, A0 h | f g i, g h => A0 g; A1 f
 A0 A1 i, A0 h | f g i, f g j h => no
 A0 A1 j | f g j => yes
@@ -72,6 +86,22 @@ A0 f f j j | f g f j j => A0 g
 A0 f f j j | f f j => no
 A0 A0 A0 A1 A1 j j j j | f g f g f j j j j => A0 f; A1 g
 A0 A0 A0 A1 A1 j j j j | f g f g g f j j j j j => no
+f g j | f g j => yes
+f g j | f f j => no
+f g j A0 i | A1 f g j i => A0 A1
+A0 f g j j | g f g j j => A0 g
+A0 f g j j | f f f j j => no
+A0 f g j j, A0 | g f g j j, g => A0 g
+A0 f g j j, A0 | g f g j j, f => no
+A0 A0 f g j j j | f f f g j j j => A0 f
+
+A; f : -> A; g : -> A; h : A A -> A [comm]; i : A A -> A [assoc comm id: f]
+A0 A1 h, A0 | f f h, f => A0 f; A1 f
+A0 g i A1 h | g g i f h => A0 g; A1 f
+g g i A0 h | g g i g h => A0 g
+g g i A0 h | g g g i i g h => no
+A0 A0 i A1 h, A1 | g g i g h, g => A0 g; A1 g
+A0 A0 i A1 h, A1 | g g i g h, f => no
 
 A B; A < B; f : -> A; g : -> A; h : -> B; i : B B -> B [assoc comm id: h]
 B0 | f => B0 f

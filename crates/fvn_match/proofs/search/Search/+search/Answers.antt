@@ -1,5 +1,5 @@
 -- What each call of the search is given, and what it finds.
-use Rattle.std.proofs.Common.{◌≡◌, ◌≤◌, length, get_or, Some, refl, sym, ap, ◌∙◌, subst, arith}
+use Rattle.std.proofs.Common.{◌≡◌, ◌≤◌, [], ◌∷◌, length, get_or, Some, refl, sym, ap, ◌∙◌, subst, arith}
 use Rattle.std.specs.Prelude.{IfOk, ◌*◌, reverse, sum as std_sum}
 use Rattle.std.specs.List.{AllZip, AllByRecursion}
 use Rattle.std.proofs.lemmas.Bool.{false≢true, eqb-true}
@@ -11,7 +11,7 @@ use Rattle.fvn_match.specs.inner.Choices.{IsWithin}
 use Rattle.fvn_match.specs.inner.Summands.{references, IsCounted}
 use Rattle.fvn_match.specs.inner.Candidates.{IsSolution, Finds}
 use Rattle.fvn_match.specs.inner.Goals.{bindings_of, patterns_of, SumsHold, Asked, AllMake, ChoiceAsked, IsPair, IsFlatOf, GoalsFit, SumsFit, weight, weight_of, goals_weight, sums_weight}
-use Rattle.fvn_match.specs.inner.Searching.{SearchesGoals, SearchesPair, IsWhole}
+use Rattle.fvn_match.specs.inner.Searching.{SearchesGoals, SearchesPair, crossed, IsWhole}
 use Rattle.fvn_match.specs.inner.Known.{LeavesOpen}
 use Rattle.fvn_match.specs.declared.goals.Goals.{Done}
 use Rattle.fvn_match.proofs.AxiomTests.{free_at, commutative_at}
@@ -21,7 +21,7 @@ use Rattle.fvn_match.proofs.Runs.{length_references, references-drop}
 use Rattle.fvn_match.proofs.PairSteps.{variable_is, variable_or_head}
 use Rattle.fvn_match.specs.inner.Apart.{IsTakenApart}
 use Rattle.fvn_match.proofs.TakingApart.{untouched_fits, as_many_left, left_pairs, left_values, lighter_left, found_never, found_apart, pairs_parted, pairs_weight, found_pairs}
-use Rattle.fvn_match.proofs.PairFinding.{zip_long, two_is, one_more_candidate, if_found_bound, refused_sort, refused_unsorted, found_known, refused_known, found_straight_of, found_across_of, crossing_pairs, found_values, found_no_pairs, refused_unheaded, pairs_of_args, as_many_args, found_free, crossing_args, two_of_patterns, two_of_targets, found_commutative}
+use Rattle.fvn_match.proofs.PairFinding.{zip_long, two_is, one_more_candidate, if_found_bound, refused_sort, refused_unsorted, found_known, refused_known, found_straight, found_across, found_values, found_no_pairs, refused_unheaded, pairs_of_args, as_many_args, found_free, crossing_args, two_of_patterns, two_of_targets, found_commutative}
 use Rattle.fvn_match.proofs.SumFitting.{started_fits, smaller_fits}
 use Rattle.fvn_match.proofs.SumFinding.{IsTried, no_patterns, group_of, group_within, choice_within, as_long, length_quotients, each_itself, refused_hopeless, refused_closed, found_open, open_fits, open_weight, refused_left, found_taken, found_only, found_choices, tried_none, found_choice, tried_one, tried_all}
 use Rattle.fvn_match.proofs.ChoiceFinding.{refused_whole, refused_made, whole_pair, left_fits, found_whole}
@@ -31,14 +31,6 @@ use Rattle.fvn_match.proofs.Weights.{weight_args, weight_of-reverse, weight_of-g
 use Rattle.fvn_match.proofs.search.Search.+search.Goals as goal
 
 -- goals and sums, from the first on
-pub solve-pair-requires : goal.solve-pair-requires
-solve-pair-requires t c =
-    let fits = subst (GoalsFit c.args.self.now.sig.now) c.in-Pair.is c.requires.state.pairs in
-    (omega (arith, ap goals_weight c.in-Pair.is), (c.requires.vars, (fits.0, record { pairs = fits.1; sums = c.requires.state.sums; values = c.requires.state.values })))
-
-pub solve-returns-in-Pair : goal.solve-returns-in-Pair
-solve-returns-in-Pair t c = subst (λ g. IfOk c.pair.result (SearchesGoals c.args.self.now g c.args.sums.now c.args.bound.now)) (sym c.in-Pair.is) c.pair.ensures
-
 pub solve-lists-requires : goal.solve-lists-requires
 solve-lists-requires t c =
     let fits = subst (GoalsFit c.args.self.now.sig.now) c.in-Lists.is c.requires.state.pairs in
@@ -47,8 +39,8 @@ solve-lists-requires t c =
 pub solve-returns-in-Lists : goal.solve-returns-in-Lists
 solve-returns-in-Lists t c = subst (λ g. IfOk c.lists.result (SearchesGoals c.args.self.now g c.args.sums.now c.args.bound.now)) (sym c.in-Lists.is) c.lists.ensures
 
-pub solve-one_by_one-requires : goal.solve-one_by_one-requires
-solve-one_by_one-requires t c =
+pub solve-again-requires : goal.solve-again-requires
+solve-again-requires t c =
     let fits = subst (GoalsFit c.args.self.now.sig.now) c.in-Pairs.is c.requires.state.pairs in
     let long = zip_long (IsPair c.args.self.now.sig.now) (references c.in-Pairs.pairs.patterns.now) (references c.in-Pairs.pairs.targets.now) fits.0 in
     let ps = length_references c.in-Pairs.pairs.patterns.now in
@@ -56,7 +48,7 @@ solve-one_by_one-requires t c =
     (omega (arith, ap goals_weight c.in-Pairs.is), (c.requires.vars, (sym ps ∙ long ∙ ts, (fits.0, record { pairs = fits.1; sums = c.requires.state.sums; values = c.requires.state.values }))))
 
 pub solve-returns-in-Pairs : goal.solve-returns-in-Pairs
-solve-returns-in-Pairs t c = subst (λ g. IfOk c.one_by_one.result (SearchesGoals c.args.self.now g c.args.sums.now c.args.bound.now)) (sym c.in-Pairs.is) c.one_by_one.ensures
+solve-returns-in-Pairs t c = subst (λ g. IfOk c.again.result (SearchesGoals c.args.self.now g c.args.sums.now c.args.bound.now)) (sym c.in-Pairs.is) c.again.ensures
 
 pub solve-sum-requires : goal.solve-sum-requires
 solve-sum-requires t c =
@@ -83,8 +75,8 @@ lists-returns-then-not-can t c =
     found_never c.args.self.now.sig.now (bindings_of c.args.bound.now) c.args.self.now.vars.now (Asked c.args.self.now.sig.now c.args.rest.now c.args.sums.now) c.untouched-parts.result c.take_all.new.self c.untouched-parts.ensures
     c.args.ps.now c.args.ts.now (rw c.if-not-can.true at c.in_ok-can.ensures)
 
-pub lists-one_by_one-requires : goal.lists-one_by_one-requires
-lists-one_by_one-requires t c =
+pub lists-again-requires : goal.lists-again-requires
+lists-again-requires t c =
     let d = c.args.self.now.sig.now in
     let b = bindings_of c.args.bound.now in
     let after = c.take_all.new.self in
@@ -111,7 +103,52 @@ lists-returns t c =
     let d = c.args.self.now.sig.now in
     let b = bindings_of c.args.bound.now in
     found_apart d b c.args.self.now.vars.now (Asked d c.args.rest.now c.args.sums.now) c.untouched-parts.result c.take_all.new.self c.untouched-parts.ensures c.args.ps.now c.args.ts.now (rw c.if-not-can.false at c.in_ok-can.ensures)
-    c.as_slice.result.now c.as_slice-patterns.result.now c.as_slice-targets.result.now c.as_slice.ensures.value c.as_slice-patterns.ensures.value c.as_slice-targets.ensures.value c.one_by_one.result c.one_by_one.ensures
+    c.as_slice.result.now c.as_slice-patterns.result.now c.as_slice-targets.result.now c.as_slice.ensures.value c.as_slice-patterns.ensures.value c.as_slice-targets.ensures.value c.again.result c.again.ensures
+
+-- pairs that were kept
+pub again-one_by_one-requires : goal.again-one_by_one-requires
+again-one_by_one-requires t c = (omega arith, (c.requires.vars, (c.requires.lengths, (c.requires.pairs, c.requires.state))))
+
+pub again-returns-then-known-seen : goal.again-returns-then-known-seen
+again-returns-then-known-seen t c = c.one_by_one.ensures
+
+pub again-take_each-requires-clause-fits : goal.again-take_each-requires-clause-fits
+again-take_each-requires-clause-fits t c = untouched_fits c.args.self.now.sig.now (bindings_of c.args.bound.now) c.requires.state.values c.untouched-parts.result c.untouched-parts.ensures
+
+pub again-returns-then-not-can : goal.again-returns-then-not-can
+again-returns-then-not-can t c =
+    found_never c.args.self.now.sig.now (bindings_of c.args.bound.now) c.args.self.now.vars.now (Asked c.args.self.now.sig.now c.args.rest.now c.args.sums.now) c.untouched-parts.result c.take_each.new.self c.untouched-parts.ensures
+    (references c.args.ps.now) (references c.args.ts.now) (rw c.if-not-can.true at c.in_ok-can.ensures)
+
+pub again-one_by_one-requires-2 : goal.again-one_by_one-requires-2
+again-one_by_one-requires-2 t c =
+    let d = c.args.self.now.sig.now in
+    let b = bindings_of c.args.bound.now in
+    let after = c.take_each.new.self in
+    let taken : IsTakenApart d b c.untouched-parts.result after (AllMake d (references c.args.ps.now) (references c.args.ts.now)) (weight_of (references c.args.ps.now)) = rw c.if-not-can.false at c.in_ok-can.ensures in
+    let qs = c.as_slice-patterns.ensures.value in
+    let us = c.as_slice-targets.ensures.value in
+    let light = lighter_left d b c.args.self.now.vars.now (Asked d c.args.rest.now c.args.sums.now) c.untouched-parts.result after c.untouched-parts.ensures (references c.args.ps.now) (references c.args.ts.now) taken in
+    let heavy = ap (λ l. weight_of (references l)) qs in (
+      omega (arith, light, heavy),
+      (
+        c.requires.vars,
+        (
+          ap length qs ∙ as_many_left d b after taken.fits ∙ sym (ap length us),
+          (
+            left_pairs d b after taken.fits c.as_slice-patterns.result.now c.as_slice-targets.result.now qs us,
+            record { pairs = c.requires.state.pairs; sums = c.requires.state.sums; values = left_values d b after taken.fits c.as_slice.result.now c.as_slice.ensures.value },
+          ),
+        ),
+      ),
+    )
+
+pub again-returns : goal.again-returns
+again-returns t c =
+    let d = c.args.self.now.sig.now in
+    let b = bindings_of c.args.bound.now in
+    found_apart d b c.args.self.now.vars.now (Asked d c.args.rest.now c.args.sums.now) c.untouched-parts.result c.take_each.new.self c.untouched-parts.ensures (references c.args.ps.now) (references c.args.ts.now) (rw c.if-not-can.false at c.in_ok-can.ensures)
+    c.as_slice.result.now c.as_slice-patterns.result.now c.as_slice-targets.result.now c.as_slice.ensures.value c.as_slice-patterns.ensures.value c.as_slice-targets.ensures.value c.one_by_one-2.result c.one_by_one-2.ensures
 
 -- references, pair by pair
 pub one_by_one-solve-requires : goal.one_by_one-solve-requires
@@ -263,36 +300,66 @@ variable-returns-else-not-has_sort_of t c =
     if_found_bound c.args.self.now.sig.now (bindings_of c.args.bound.now) c.args.x c.args.t.now c.requires.pair c.args.self.now.vars.now (Asked c.args.self.now.sig.now c.args.rest.now c.args.sums.now)
     c.in-None.ensures c.solve-in-None.result c.solve-in-None.ensures
 
--- a commutative pair
-pub either-pair-requires : goal.either-pair-requires
-either-pair-requires t c =
-    let ps_are = two_is c.args.ps.now c.index-ps-0.result c.index-ps-1.result c.requires.patterns c.index-ps-0.is c.index-ps-1.is in
+-- a commutative pair, in one order of the targets and in the other
+pub either-way-requires : goal.either-way-requires
+either-way-requires t c =
     let ts_are = two_is c.args.ts.now c.index-ts-0.result c.index-ts-1.result c.requires.targets c.index-ts-0.is c.index-ts-1.is in
-    let z = crossing_pairs c.args.self.now.sig.now (bindings_of c.args.bound.now) c.args.self.now.vars.now c.index-ps-0.result c.index-ps-1.result c.index-ts-0.result c.index-ts-1.result (Asked c.args.self.now.sig.now c.args.rest.now c.args.sums.now) c.args.ps.now c.args.ts.now ps_are ts_are c.requires.pairs in
-    let w = ap weight_of ps_are in
-    (omega (arith, w), (c.requires.vars, (z.0, record { pairs = (z.1.0, c.requires.state.pairs); sums = c.requires.state.sums; values = c.requires.state.values })))
+    (omega arith, (c.requires.vars, (c.requires.patterns, (subst (AllZip (IsPair c.args.self.now.sig.now) c.args.ps.now) ts_are c.requires.pairs.straight, c.requires.state))))
 
 pub either-returns-then-is_some : goal.either-returns-then-is_some
 either-returns-then-is_some t c =
-    let ps_are = two_is c.args.ps.now c.index-ps-0.result c.index-ps-1.result c.requires.patterns c.index-ps-0.is c.index-ps-1.is in
     let ts_are = two_is c.args.ts.now c.index-ts-0.result c.index-ts-1.result c.requires.targets c.index-ts-0.is c.index-ts-1.is in
-    found_straight_of c.args.self.now.sig.now (bindings_of c.args.bound.now) c.args.self.now.vars.now c.index-ps-0.result c.index-ps-1.result c.index-ts-0.result c.index-ts-1.result (Asked c.args.self.now.sig.now c.args.rest.now c.args.sums.now) c.args.ps.now c.args.ts.now ps_are ts_are
+    found_straight c.args.self.now.sig.now (bindings_of c.args.bound.now) c.args.self.now.vars.now c.args.ps.now c.args.ts.now c.index-ts-0.result c.index-ts-1.result ts_are (Asked c.args.self.now.sig.now c.args.rest.now c.args.sums.now)
     c.in_ok-found.found (sym c.is_some.ensures ∙ c.if-is_some.true) c.in_ok-found.ensures
 
-pub either-pair-requires-2 : goal.either-pair-requires-2
-either-pair-requires-2 t c =
-    let ps_are = two_is c.args.ps.now c.index-ps-0.result c.index-ps-1.result c.requires.patterns c.index-ps-0.is c.index-ps-1.is in
+pub either-way-requires-2 : goal.either-way-requires-2
+either-way-requires-2 t c =
     let ts_are = two_is c.args.ts.now c.index-ts-0.result c.index-ts-1.result c.requires.targets c.index-ts-0.is c.index-ts-1.is in
-    let z = crossing_pairs c.args.self.now.sig.now (bindings_of c.args.bound.now) c.args.self.now.vars.now c.index-ps-0.result c.index-ps-1.result c.index-ts-0.result c.index-ts-1.result (Asked c.args.self.now.sig.now c.args.rest.now c.args.sums.now) c.args.ps.now c.args.ts.now ps_are ts_are c.requires.pairs in
-    let w = ap weight_of ps_are in
-    (omega (arith, w), (c.requires.vars, (z.1.1.0, record { pairs = (z.1.1.1, c.requires.state.pairs); sums = c.requires.state.sums; values = c.requires.state.values })))
+    (omega arith, (c.requires.vars, (c.requires.patterns, (subst (λ m. AllZip (IsPair c.args.self.now.sig.now) c.args.ps.now (crossed m)) ts_are c.requires.pairs.across, c.requires.state))))
 
 pub either-returns : goal.either-returns
 either-returns t c =
-    let ps_are = two_is c.args.ps.now c.index-ps-0.result c.index-ps-1.result c.requires.patterns c.index-ps-0.is c.index-ps-1.is in
     let ts_are = two_is c.args.ts.now c.index-ts-0.result c.index-ts-1.result c.requires.targets c.index-ts-0.is c.index-ts-1.is in
-    found_across_of c.args.self.now.sig.now (bindings_of c.args.bound.now) c.args.self.now.vars.now c.index-ps-0.result c.index-ps-1.result c.index-ts-0.result c.index-ts-1.result (Asked c.args.self.now.sig.now c.args.rest.now c.args.sums.now) c.args.ps.now c.args.ts.now ps_are ts_are
-    c.in_ok-found.found (sym c.is_some.ensures ∙ c.if-is_some.false) c.in_ok-found.ensures c.pair-2.result c.pair-2.ensures
+    found_across c.args.self.now.sig.now (bindings_of c.args.bound.now) c.args.self.now.vars.now c.args.ps.now c.args.ts.now c.index-ts-0.result c.index-ts-1.result ts_are (Asked c.args.self.now.sig.now c.args.rest.now c.args.sums.now)
+    c.in_ok-found.found (sym c.is_some.ensures ∙ c.if-is_some.false) c.in_ok-found.ensures c.way-2.result c.way-2.ensures
+
+pub way-take_both-requires-clause-fits : goal.way-take_both-requires-clause-fits
+way-take_both-requires-clause-fits t c = untouched_fits c.args.self.now.sig.now (bindings_of c.args.bound.now) c.requires.state.values c.untouched-parts.result c.untouched-parts.ensures
+
+pub way-returns-then-not-can : goal.way-returns-then-not-can
+way-returns-then-not-can t c =
+    found_never c.args.self.now.sig.now (bindings_of c.args.bound.now) c.args.self.now.vars.now (Asked c.args.self.now.sig.now c.args.rest.now c.args.sums.now) c.untouched-parts.result c.take_both.new.self c.untouched-parts.ensures
+    c.args.ps.now (c.args.t.now ∷ c.args.u.now ∷ []) (rw c.if-not-can.true at c.in_ok-can.ensures)
+
+pub way-again-requires : goal.way-again-requires
+way-again-requires t c =
+    let d = c.args.self.now.sig.now in
+    let b = bindings_of c.args.bound.now in
+    let after = c.take_both.new.self in
+    let taken : IsTakenApart d b c.untouched-parts.result after (AllMake d c.args.ps.now (c.args.t.now ∷ c.args.u.now ∷ [])) (weight_of c.args.ps.now) = rw c.if-not-can.false at c.in_ok-can.ensures in
+    let qs = c.as_slice-patterns.ensures.value in
+    let us = c.as_slice-targets.ensures.value in
+    let light = lighter_left d b c.args.self.now.vars.now (Asked d c.args.rest.now c.args.sums.now) c.untouched-parts.result after c.untouched-parts.ensures c.args.ps.now (c.args.t.now ∷ c.args.u.now ∷ []) taken in
+    let heavy = ap (λ l. weight_of (references l)) qs in (
+      omega (arith, light, heavy),
+      (
+        c.requires.vars,
+        (
+          ap length qs ∙ as_many_left d b after taken.fits ∙ sym (ap length us),
+          (
+            left_pairs d b after taken.fits c.as_slice-patterns.result.now c.as_slice-targets.result.now qs us,
+            record { pairs = c.requires.state.pairs; sums = c.requires.state.sums; values = left_values d b after taken.fits c.as_slice.result.now c.as_slice.ensures.value },
+          ),
+        ),
+      ),
+    )
+
+pub way-returns : goal.way-returns
+way-returns t c =
+    let d = c.args.self.now.sig.now in
+    let b = bindings_of c.args.bound.now in
+    found_apart d b c.args.self.now.vars.now (Asked d c.args.rest.now c.args.sums.now) c.untouched-parts.result c.take_both.new.self c.untouched-parts.ensures c.args.ps.now (c.args.t.now ∷ c.args.u.now ∷ []) (rw c.if-not-can.false at c.in_ok-can.ensures)
+    c.as_slice.result.now c.as_slice-patterns.result.now c.as_slice-targets.result.now c.as_slice.ensures.value c.as_slice-patterns.ensures.value c.as_slice-targets.ensures.value c.again.result c.again.ensures
 
 -- a sum at the start
 pub summed-summands-requires-clause-settled : goal.summed-summands-requires-clause-settled

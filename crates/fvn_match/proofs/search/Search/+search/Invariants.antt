@@ -11,7 +11,10 @@ abbrev pub decreases-solve : goal.decreases-solve
 decreases-solve l = 4 * (goals_weight l.goals.now + sums_weight l.sums.now)
 
 abbrev pub decreases-lists : goal.decreases-lists
-decreases-lists l = 4 * (weight_of l.ps.now + goals_weight l.rest.now + sums_weight l.sums.now) + 2
+decreases-lists l = 4 * (weight_of l.ps.now + goals_weight l.rest.now + sums_weight l.sums.now) + 3
+
+abbrev pub decreases-again : goal.decreases-again
+decreases-again l = 4 * (weight_of (references l.ps.now) + goals_weight l.rest.now + sums_weight l.sums.now) + 2
 
 abbrev pub decreases-one_by_one : goal.decreases-one_by_one
 decreases-one_by_one l = 4 * (weight_of (references l.ps.now) + goals_weight l.rest.now + sums_weight l.sums.now) + 1
@@ -23,7 +26,10 @@ abbrev pub decreases-variable : goal.decreases-variable
 decreases-variable l = 4 * (1 + goals_weight l.rest.now + sums_weight l.sums.now)
 
 abbrev pub decreases-either : goal.decreases-either
-decreases-either l = 4 * (weight_of l.ps.now + goals_weight l.rest.now + sums_weight l.sums.now)
+decreases-either l = 4 * (weight_of l.ps.now + goals_weight l.rest.now + sums_weight l.sums.now) + 4
+
+abbrev pub decreases-way : goal.decreases-way
+decreases-way l = 4 * (weight_of l.ps.now + goals_weight l.rest.now + sums_weight l.sums.now) + 3
 
 abbrev pub decreases-summed : goal.decreases-summed
 decreases-summed l = 4 * (weight l.p.now + goals_weight l.rest.now + sums_weight l.sums.now) + 1
