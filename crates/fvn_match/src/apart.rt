@@ -216,15 +216,24 @@ impl<'a> Apart<'a> {
         let u = &ts[1];
         let equal = t.same(u);
         if equal {
-            return Some(Ordered { first: t, second: u });
+            return Some(Ordered {
+                first: t,
+                second: u,
+            });
         }
         let across = self.refuses_two(sig, bound, p, u, q, t);
         if across {
-            return Some(Ordered { first: t, second: u });
+            return Some(Ordered {
+                first: t,
+                second: u,
+            });
         }
         let straight = self.refuses_two(sig, bound, p, t, q, u);
         if straight {
-            return Some(Ordered { first: u, second: t });
+            return Some(Ordered {
+                first: u,
+                second: t,
+            });
         }
         None
     }

@@ -60,7 +60,14 @@ impl Search<'_> {
         match goals {
             Goals::Lists(ps, ts, rest) => self.lists(*ps, *ts, &**rest, &*sums, &*bound),
             Goals::Pairs(pairs, rest) => {
-                self.again(pairs.patterns, pairs.targets, pairs.seen, &**rest, &*sums, &*bound)
+                self.again(
+                    pairs.patterns,
+                    pairs.targets,
+                    pairs.seen,
+                    &**rest,
+                    &*sums,
+                    &*bound,
+                )
             }
             Goals::Done => match sums {
                 Sums::WithSum(goal, rest) => self.sum(&*goal, &**rest, &*bound),
