@@ -5,7 +5,7 @@
 use fvn_combine_drawing::SolvedSystems;
 use std::alloc::Global;
 
-/// Sum systems that were solved, how many states were looked at, and how many choices were tried.
+/// Sum systems that were solved, how many states were asked, and how many choices were tried.
 #[derive(Drop)]
 pub(crate) struct Effort {
     pub(crate) solved: SolvedSystems,
@@ -23,7 +23,7 @@ impl Effort {
         }
     }
 
-    // One state more is looked at.
+    // One state more is asked.
     pub(crate) fn count_state(&mut self) {
         self.states = self.states.saturating_add(1);
     }

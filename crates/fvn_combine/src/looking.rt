@@ -249,7 +249,12 @@ fn look_at(task: &Task, state: &State, solved: &mut SolvedSystems) -> Result<Loo
     }
 }
 
-// What the last state asks for. That it is looked at is counted.
+// Whether what is asked for is a fact of the state, so that nothing is asked.
+fn is_fact(looked: &Looked) -> bool {
+    matches!(looked, Looked::Together(_, _) | Looked::Apart(_, _))
+}
+
+// What the last state asks for. It is counted where that is no fact: with a fact the same state is looked at again.
 pub(crate) fn look(task: &Task, tree: &Tree, effort: &mut Effort) -> Result<Looked, NoMemory>
     requires { AreClosed task.now.declarations task.now.table tree.now }
     ensures { IfOk result (IsLooked task.now tree.now) }
@@ -257,8 +262,10 @@ pub(crate) fn look(task: &Task, tree: &Tree, effort: &mut Effort) -> Result<Look
     match tree.top() {
         None => Ok(Looked::Over),
         Some(state) => {
-            effort.count_state();
             let looked = look_at(task, state, &mut effort.solved)?;
+            if !is_fact(&looked) {
+                effort.count_state();
+            }
             Ok(looked)
         }
     }
