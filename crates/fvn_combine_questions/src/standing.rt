@@ -30,7 +30,7 @@ pub(crate) fn has_other_head(reading: &Reading, n: usize, sums: &Sums, k: usize)
     let _nodes = n;
     match reading.heads.as_slice()[k] {
         None => false,
-        Some(g) => g != sums.operator,
+        Some(own) => own != sums.operator,
     }
 }
 

@@ -27,6 +27,14 @@ use fvn_combine_leaves::{Reading, Sums, is_user};
 use fvn_combine_nodes::State;
 use fvn_lindio::Solution;
 
+// Whether the solution is above zero in column i.
+fn has_column(v: &Solution, i: usize) -> bool
+    requires { i < length v.now.parts }
+    ensures { IsTrue result ↔ (0 < slice_index v.now.parts i) }
+{
+    v.parts.as_slice()[i] > 0
+}
+
 // Whether the solution has column i, whose class may be a constant of the operator.
 fn stands(reading: &Reading, n: usize, sums: &Sums, v: &Solution, i: usize) -> bool
     requires whole { IsWhole n reading.now }
@@ -35,9 +43,8 @@ fn stands(reading: &Reading, n: usize, sums: &Sums, v: &Solution, i: usize) -> b
     requires within { i < length sums.now.columns }
     ensures { IsTrue result ↔ StandsIn reading.now sums.now v.now i }
 {
-    let parts = v.parts.as_slice();
     let columns = sums.columns.as_slice();
-    if parts[i] == 0 {
+    if !has_column(v, i) {
         return false;
     }
     may_be_constant(reading, n, sums, columns[i])
@@ -51,9 +58,8 @@ fn is_single(reading: &Reading, n: usize, sums: &Sums, v: &Solution, i: usize) -
     requires within { i < length sums.now.columns }
     ensures { IsTrue result → IsSingleIn reading.now sums.now v.now i }
 {
-    let parts = v.parts.as_slice();
     let columns = sums.columns.as_slice();
-    if parts[i] == 0 {
+    if !has_column(v, i) {
         return false;
     }
     if !is_user(sums, columns[i]) {
