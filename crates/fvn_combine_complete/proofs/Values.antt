@@ -19,6 +19,7 @@ use Rattle.fvn_forms.proofs.Sums.{same_op_itself}
 use Rattle.fvn_forms.proofs.Build.{count_parts_build}
 use Rattle.fvn_lindio.specs.Systems.{above, below}
 use Rattle.fvn_flat.specs.Forms.{head_of}
+use Rattle.fvn_flat.specs.SolvedLists.{component}
 use Rattle.fvn_flat.specs.Partitions.{HasNoIdentity}
 use Rattle.fvn_combine_nodes.specs.Table.{NodeTable, IsWellMade, IsOver}
 use Rattle.fvn_combine_nodes.specs.States.{IsOpen, class_of}
