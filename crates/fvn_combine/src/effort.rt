@@ -5,10 +5,11 @@
 use fvn_combine_drawing::SolvedSystems;
 use std::alloc::Global;
 
-/// Sum systems that were solved, how many states were asked, and how many choices were tried.
+/// Sum systems that were solved, whether one was refused, how many states were asked, and how many choices were tried.
 #[derive(Drop)]
 pub(crate) struct Effort {
     pub(crate) solved: SolvedSystems,
+    pub(crate) refused: bool,
     pub(crate) states: u64,
     pub(crate) choices: u64,
 }
@@ -18,6 +19,7 @@ impl Effort {
     pub(crate) fn new(alloc: Global) -> Effort {
         Effort {
             solved: SolvedSystems::new(alloc),
+            refused: false,
             states: 0,
             choices: 0,
         }
