@@ -221,6 +221,7 @@ vunify | X =? g(c(Y,Y)) /\\ Y =? c(Z,Z) /\\ Z =? c(U,U) /\\ U =? ~123%g(~a~123%)
 vunify | X =? g(g(c(Y,Y))) /\\ Y =? c(Z,Z) /\\ Z =? c(U,U) /\\ U =? ~123%g(~a~123%)~ ==> 5 | bound size 1000
 unify | X =? _+_(V:S~23%,V@:S~) ==> 0 | 1 lines | complete 1
 unify | X =? _+_(V:S~24%,V@:S~) ==> 0 | 1 lines | complete 1
+unify | X =? ~40%g(_+_(~Y~40%,a))~ ==> 0 | 1 lines | complete 1
 vunify | X =? _+_(V:S~23%,V@:S~) ==> 0 | 1 lines | complete 1
 vunify | X =? _+_(V:S~24%,V@:S~) ==> 0 | 1 lines | complete 1
 unify | _+_(X~40%,X~) =? _+_(Y~39%,Y~) /\\ _+_(Y~40%,Y~) =? _+_(Z~39%,Z~) ==> 5 | bound basis _+_
