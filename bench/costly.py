@@ -82,6 +82,16 @@ def wrapped(n):
     return "X:N" if n == 0 else "k(+(%s,o))" % wrapped(n - 1)
 
 
+def within(n, summand):
+    """Sums within one another under a free operator, each with this summand."""
+    return "X:S" if n == 0 else "g(_+_(%s,%s))" % (within(n - 1, summand), summand.replace("@", str(n)))
+
+
+def beside(n):
+    """So many pairs of a variable with a sum of two others."""
+    return " /\\ ".join("X%d:S =? _+_(Y%d:S,Z%d:S)" % (i, i, i) for i in range(n))
+
+
 def common_sorts(n, pairs):
     """So many pairs of variables of two sorts with n common subsorts."""
     return " /\\ ".join("X%d:A =? Y%d:B" % (i, i) for i in range(pairs)), wide_sorts(n)
@@ -186,6 +196,9 @@ ROWS = [
           ("one variable on the right", leftmost, ["X:N"] + ["Y:N"] * n), ("constants alone", leftmost, ["o"] * (n + 1)))],
     *[("unify, sorts of %d sums in operators" % n, ["unify", "E:E =? " + wrapped(n)], WRAPPED, asked("E:E =? " + wrapped(n)))
       for n in (10, 40)],
+    *[("unify, %d sums within one another, %s" % (n, what), ["unify", "E:S =? " + within(n, summand)], AC, asked("E:S =? " + within(n, summand)))
+      for n, what, summand in ((13, "other variables", "V@:S"), (40, "other variables", "V@:S"), (40, "one constant", "c1"), (80, "one constant", "c1"))],
+    *[("unify, %d sums beside one another" % n, ["unify", beside(n)], AC, asked(beside(n))) for n in (13, 40)],
     ("unify, 2,048 ways of parities", ["unify", "E:E =? " + rightmost(["X%d:N" % i for i in range(12)])], FREE_PARITY,
      asked("E:E =? " + rightmost(["X%d:N" % i for i in range(12)]))),
     *[("unify, 2 to the %d ways, pairs of sorts" % n, ["unify", common_sorts(2, n)[0]], common_sorts(2, n)[1],

@@ -97,10 +97,10 @@ All-middle P (x ∷ xs) ys y all = All-middle P xs ys y (All-tail P x (xs ++ y �
 pub record IsWalked (constants : List ℕ) (basis : List Solution) (number place : ℕ) (sums : List ℕ) : Type 0 where
   pub inside : place ≤ length basis
   pub summed : (j : ℕ) → slice_index sums j ≡ column_sum j (higher number place basis)
-  pub small : (j : ℕ) → slice_index sums j + 65535 * place ≤ 65535 * 31
+  pub small : (j : ℕ) → slice_index sums j + 65535 * place ≤ 65535 * 127
   pub apart : All (λ v. touched constants v ≤ 1) (higher number place basis)
 
-pub IsWalked-start : (constants : List ℕ) (basis : List Solution) (number : ℕ) (sums : List ℕ) → length basis ≤ 31 → ((j : ℕ) → slice_index sums j ≡ 0) → IsWalked constants basis number (length basis) sums
+pub IsWalked-start : (constants : List ℕ) (basis : List Solution) (number : ℕ) (sums : List ℕ) → length basis ≤ 127 → ((j : ℕ) → slice_index sums j ≡ 0) → IsWalked constants basis number (length basis) sums
 IsWalked-start constants basis number sums few zeros =
     let none : higher number (length basis) basis ≡ [] = higher-all number (length basis) basis (omega arith) in
     record {

@@ -42,7 +42,7 @@ solution-Contains : (list : List Solution) (k : ℕ) (d : Solution) → k < leng
 solution-Contains list k d h = (k, omega (arith, length-map list (λ v. v.parts)), get_or-map (λ v. v.parts) list k d (get_or list k d).parts h)
 
 -- few solutions that are all minimal are of so many columns
-pub IsBounded-from_minimal : (columns : ℕ) (rows : List (List ℤ)) (constants : List ℕ) (basis : List Solution) → length basis ≤ 31 → ((v : List ℕ) → Contains (vectors_of basis) v → IsMinimal columns rows v) → All (All (λ a. a ≤ 65535)) (vectors_of basis) → All (λ c. c < columns) constants → IsBounded columns constants basis
+pub IsBounded-from_minimal : (columns : ℕ) (rows : List (List ℤ)) (constants : List ℕ) (basis : List Solution) → length basis ≤ 127 → ((v : List ℕ) → Contains (vectors_of basis) v → IsMinimal columns rows v) → All (All (λ a. a ≤ 65535)) (vectors_of basis) → All (λ c. c < columns) constants → IsBounded columns constants basis
 IsBounded-from_minimal columns rows constants basis few minimal narrow among = record {
   few = few;
   sized = λ k d h. (minimal (get_or basis k d).parts (solution-Contains basis k d h)).solves.sized;

@@ -19,7 +19,7 @@ pub struct Choices {
     basis: Seq<Solution>,
     full: bool,
     sums: Vec<u64>,
-    below: u32,
+    below: u128,
 }
 
 impl Model for Choices {
@@ -93,7 +93,7 @@ impl Choices {
     ///
     /// No branch of numbers with the same highest bits is entered where these bits already leave no
     /// choice that is listed; it is passed in one step.
-    pub fn next(&mut self) -> Option<u32>
+    pub fn next(&mut self) -> Option<u128>
         ensures greatest { IfSome result (λ b.
             Pending self.old b × ((a : ℕ) → Pending self.old a → a ≤ b)) }
         ensures exhausted { (result ≡ None) ↔ ((a : ℕ) → ¬ Pending self.old a) }

@@ -15,7 +15,7 @@ pub fn dead_place(
     may_be_zero: &[bool],
     bounds: &ColumnBounds,
     basis: &[Solution],
-    number: u32,
+    number: u128,
     sums: &mut [u64],
 ) -> Option<usize>
     requires bounded { IsBounded (length may_be_zero.now) constants.now basis.now }

@@ -63,7 +63,7 @@ fn copied(alloc: Global, solutions: &[Solution]) -> Result<Vec<Solution>, AllocE
 }
 
 /// The valid choices among these minimal solutions of the theory's system, of which there may be at
-/// most 31.
+/// most 127.
 pub fn choices_among(
     alloc: Global,
     theory: &OneTheory,

@@ -9,7 +9,7 @@ ghost use Rattle.fvn_acunify_product.specs.inner.Steps.{IsBare, IsEnd, IsLast, I
 use fvn_acunify::Choices;
 
 /// Puts the greatest list of choices, or answers that some wheel has no choice.
-pub fn first(wheels: &mut [Choices], numbers: &mut [u32]) -> bool
+pub fn first(wheels: &mut [Choices], numbers: &mut [u128]) -> bool
     requires { length numbers.old ≡ length wheels.old }
 
     ensures same { map wheel_of wheels.new ≡ map wheel_of wheels.old }
@@ -24,7 +24,7 @@ pub fn first(wheels: &mut [Choices], numbers: &mut [u32]) -> bool
 }
 
 /// Puts the greatest list of choices before the one that stands there, or answers that none is.
-pub fn step(wheels: &mut [Choices], numbers: &mut [u32]) -> bool
+pub fn step(wheels: &mut [Choices], numbers: &mut [u128]) -> bool
     requires choices { AllZip IsChoice (map wheel_of wheels.old) numbers.old }
     requires stands { Stand wheels.old numbers.old 0 (length wheels.old) }
 
@@ -42,7 +42,7 @@ pub fn step(wheels: &mut [Choices], numbers: &mut [u32]) -> bool
 }
 
 /// Moves the last wheel that has a next choice to it, and answers its place.
-fn move_last(wheels: &mut [Choices], numbers: &mut [u32]) -> Option<usize>
+fn move_last(wheels: &mut [Choices], numbers: &mut [u128]) -> Option<usize>
     requires sized { length numbers.old ≡ length wheels.old }
     requires stands { Stand wheels.old numbers.old 0 (length wheels.old) }
 
@@ -65,7 +65,7 @@ fn move_last(wheels: &mut [Choices], numbers: &mut [u32]) -> Option<usize>
 }
 
 /// Puts the greatest choice on each wheel from a place on, or answers that one of them has none.
-fn restart(wheels: &mut [Choices], numbers: &mut [u32], from: usize) -> bool
+fn restart(wheels: &mut [Choices], numbers: &mut [u128], from: usize) -> bool
     requires sized { length numbers.old ≡ length wheels.old }
     requires within { from ≤ length wheels.old }
 
@@ -88,7 +88,7 @@ fn restart(wheels: &mut [Choices], numbers: &mut [u32], from: usize) -> bool
 }
 
 /// The greatest choice on a wheel, wherever its cursor stands.
-fn greatest_choice(wheel: &mut Choices) -> Option<u32>
+fn greatest_choice(wheel: &mut Choices) -> Option<u128>
     ensures same { wheel_of wheel.new ≡ wheel_of wheel.old }
     ensures standing { IfSome result (λ b. wheel.new.below ≡ b) }
     ensures valid { IfSome result (IsChoice (wheel_of wheel.old)) }

@@ -17,7 +17,7 @@ use std::marker::Model;
 #[derive(Drop)]
 pub struct Wheels {
     wheels: Vec<Choices>,
-    numbers: Vec<u32>,
+    numbers: Vec<u128>,
     is_over: bool,
 }
 
@@ -47,7 +47,7 @@ impl Wheels {
             AllZip IsChoice o.wheels numbers → PendingChoices o numbers) }
         ensures bounded { IfOk result (λ o. choices_left o ≤ product (counts_of o.wheels)) }
     {
-        let mut numbers = vec![in alloc; 0u32; wheels.len()]?;
+        let mut numbers = vec![in alloc; 0u128; wheels.len()]?;
         let is_over = !first(wheels.as_mut_slice(), numbers.as_mut_slice());
         Ok(Wheels {
             wheels,
@@ -65,7 +65,7 @@ impl Wheels {
     }
 
     /// The greatest list of choices that is still to come.
-    pub fn current(&self) -> Option<&[u32]>
+    pub fn current(&self) -> Option<&[u128]>
         ensures value { MatchOption result (self.now.current ≡ None)
             (λ numbers. self.now.current ≡ Some numbers.now) }
         ensures greatest { IfSome result (λ numbers.

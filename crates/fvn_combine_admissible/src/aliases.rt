@@ -122,7 +122,7 @@ pub fn has_no_alias(
     tags: &[Option<OpId>],
     sums: &Sums,
     basis: &[Solution],
-    number: u32,
+    number: u128,
 ) -> Result<bool, NoMemory>
     requires closed { IsClosed sig.now table.now state.now }
     requires reading { IsReading sig.now table.now (class_of state.now) reading.now }

@@ -12,7 +12,7 @@ use std::alloc::Global;
 // Adds a solution, where the bit is set.
 fn add_if(
     alloc: Global,
-    bits: u32,
+    bits: u128,
     solutions: &mut Vec<Solution>,
     solution: &Solution,
 ) -> Result<(), NoMemory>
@@ -30,7 +30,7 @@ fn add_if(
 }
 
 /// The minimal solutions that the bits of a number take, in their order.
-pub fn taken(alloc: Global, basis: &[Solution], number: u32) -> Result<Vec<Solution>, NoMemory>
+pub fn taken(alloc: Global, basis: &[Solution], number: u128) -> Result<Vec<Solution>, NoMemory>
     ensures { IfOk result (λ all. vectors_of all.items ≡ chosen number (vectors_of basis.now)) }
 {
     let mut solutions = Vec::with_capacity(alloc, basis.len())?;

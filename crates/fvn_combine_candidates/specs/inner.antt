@@ -1,3 +1,4 @@
 -- What mirrors the code.
 pub mod Walking
 pub mod Solved
+pub mod Turned

@@ -25,7 +25,7 @@ pub fn leave_no_alias(
     reading: &Reading,
     bases: &[Seq<Solution>],
     tags: &[Option<OpId>],
-    numbers: &[u32],
+    numbers: &[u128],
 ) -> Result<bool, NoMemory>
     requires closed { IsClosed sig.now table.now state.now }
     requires reading { IsReading sig.now table.now (class_of state.now) reading.now }

@@ -1,17 +1,20 @@
-//! Minimal solutions of systems that are refused row by row from the first, found from the last row on.
+//! Minimal solutions of systems that are refused row by row from the first, found in another order of the rows.
 //!
-//! They do not depend on the order of the rows. A row of a nested sum says what the sum is, and those inside come later:
-//! from the last row on each row but the outermost of a class says what one column more is, so that no more solutions come
-//! up on the way than summands.
-ghost use Rattle.std.specs.Prelude.{◌≡◌, reverse, IfOk, IfSome};
+//! They do not depend on it. A row of a nested sum says what the sum is, and those inside come later: from the last row on
+//! each row but the outermost of a class says what one column more is, so that no more solutions come up on the way than
+//! summands. The rows that do not define a column come first, and again in their turn, where they ask nothing new: as long
+//! as few solutions solve these, no more come up at the others.
+ghost use Rattle.std.specs.Prelude.{◌≡◌, ◌++◌, reverse, All, Contains, IfOk, IfSome};
 ghost use Rattle.fvn_terms.specs.Signature.{axioms};
 ghost use Rattle.fvn_terms.specs.Equality.{IsAssociative};
 ghost use Rattle.fvn_lindio.specs.Systems.{IsSystem};
 ghost use Rattle.fvn_combine_nodes.specs.States.{IsClosed, class_of};
 ghost use Rattle.fvn_combine_leaves.specs.Bases.{IsBasis, AreBases};
 ghost use Rattle.fvn_combine_leaves.specs.Readings.{AreSums, IsReading};
+ghost use Rattle.fvn_combine_candidates.specs.inner.Turned.{IsTurned};
 
-use crate::once::{are_few_free, once_columns};
+use crate::defining::{copied_left, rows_left};
+use crate::once::are_choices_few;
 use fvn_acunify::limits::LISTED_SOLUTIONS;
 use fvn_base::Seq;
 use fvn_base::limits::MINIMAL_SOLUTIONS;
@@ -22,8 +25,11 @@ use fvn_signature::Signature;
 use fvn_terms::NoMemory;
 use std::alloc::Global;
 
+/// The most minimal solutions of the rows that define no column.
+const SOLUTIONS_LEFT: usize = 31;
+
 // The same row, in memory of its own.
-fn copied_row(alloc: Global, row: &Row) -> Result<Row, NoMemory>
+pub(crate) fn copied_row(alloc: Global, row: &Row) -> Result<Row, NoMemory>
     ensures { IfOk result (λ r. r ≡ row.now) }
 {
     let coefficients = Vec::from_slice(alloc, row.coefficients.as_slice())?;
@@ -32,11 +38,11 @@ fn copied_row(alloc: Global, row: &Row) -> Result<Row, NoMemory>
     })
 }
 
-// The rows from the last to the first, in memory of their own.
-fn turned_rows(alloc: Global, rows: &[Row]) -> Result<Vec<Row>, NoMemory>
-    ensures { IfOk result (λ v. v.items ≡ reverse rows.now) }
+// These rows, and after them the others from the last to the first, in memory of their own.
+fn turned_rows(alloc: Global, first: Vec<Row>, rows: &[Row]) -> Result<Vec<Row>, NoMemory>
+    ensures { IfOk result (λ v. v.items ≡ first.items ++ reverse rows.now) }
 {
-    let mut turned = Vec::new(alloc);
+    let mut turned = first;
     for i in 0..rows.len() {
         let row = copied_row(alloc, &rows[rows.len() - 1 - i])?;
         turned.push(row)?;
@@ -44,24 +50,53 @@ fn turned_rows(alloc: Global, rows: &[Row]) -> Result<Vec<Row>, NoMemory>
     Ok(turned)
 }
 
-// The same system with its rows from the last to the first.
-fn turned_system(alloc: Global, system: &System) -> Result<System, NoMemory>
+// The rows of the system that are left.
+fn system_left(alloc: Global, system: &System, left: &[bool]) -> Result<System, NoMemory>
     ensures columns { IfOk result (λ s. s.columns ≡ system.now.columns) }
-    ensures rows { IfOk result (λ s. s.rows ≡ reverse system.now.rows) }
+    ensures rows { IfOk result (λ s. All (Contains system.now.rows) s.rows) }
 {
-    let rows = turned_rows(alloc, system.rows.as_slice())?;
+    let rows = copied_left(alloc, system.rows.as_slice(), left)?;
     Ok(System {
         columns: system.columns,
         rows: Seq::from_vec(rows),
     })
 }
 
-// The minimal solutions of a sum operator's system, found from its last row on.
+// Whether few minimal solutions solve the rows that are left.
+fn are_few_left(alloc: Global, system: &System, left: &[bool]) -> Result<bool, NoMemory>
+    requires { IsSystem system.now }
+{
+    let rest = system_left(alloc, system, left)?;
+    match basis(alloc, &rest, SOLUTIONS_LEFT) {
+        Ok(_) => Ok(true),
+        Err(LinFault::TooMany(_)) => Ok(false),
+        Err(LinFault::TooWide(_)) => Ok(false),
+        Err(LinFault::NoMemory) => Err(NoMemory),
+    }
+}
+
+// The same system: first the rows that are left, and then all from the last to the first.
+fn turned_system(alloc: Global, system: &System, left: &[bool]) -> Result<System, NoMemory>
+    ensures { IfOk result (IsTurned system.now) }
+{
+    let first = copied_left(alloc, system.rows.as_slice(), left)?;
+    let rows = turned_rows(alloc, first, system.rows.as_slice())?;
+    Ok(System {
+        columns: system.columns,
+        rows: Seq::from_vec(rows),
+    })
+}
+
+// The minimal solutions of a sum operator's system, found in that order.
 fn basis_from_last(alloc: Global, sums: &Sums) -> Result<Option<Seq<Solution>>, NoMemory>
     requires { IsSystem sums.now.system }
     ensures { IfOk result (λ o. IfSome o (IsBasis sums.now.system)) }
 {
-    let turned = turned_system(alloc, &sums.system)?;
+    let left = rows_left(alloc, sums.system.rows.as_slice(), sums.system.columns)?;
+    if !are_few_left(alloc, &sums.system, left.as_slice())? {
+        return Ok(None);
+    }
+    let turned = turned_system(alloc, &sums.system, left.as_slice())?;
     match basis(alloc, &turned, LISTED_SOLUTIONS) {
         Ok(solutions) => Ok(Some(solutions)),
         Err(LinFault::TooMany(_)) => Ok(None),
@@ -70,8 +105,7 @@ fn basis_from_last(alloc: Global, sums: &Sums) -> Result<Option<Seq<Solution>>, 
     }
 }
 
-// The same, where choices among them are not too many: there are few, or few of them may be taken or not beside those
-// that stand in a column that each choice takes once.
+// The same, where choices among them are not too many.
 fn listed_basis(
     alloc: Global,
     sig: &Signature,
@@ -92,8 +126,17 @@ fn listed_basis(
             if basis.len() <= MINIMAL_SOLUTIONS {
                 return Ok(Some(basis));
             }
-            let once = once_columns(alloc, sig, table, state, reading, sums, sorted)?;
-            if !are_few_free(sig, sums, once.as_slice(), basis.as_slice()) {
+            let few = are_choices_few(
+                alloc,
+                sig,
+                table,
+                state,
+                reading,
+                sums,
+                sorted,
+                basis.as_slice(),
+            )?;
+            if !few {
                 return Ok(None);
             }
             Ok(Some(basis))
@@ -102,7 +145,7 @@ fn listed_basis(
 }
 
 /// All minimal solutions of each sum operator of a reading, in the reading's order, for a state at which a system is
-/// refused; nothing where they are not found from the last row on, or are so many that choices among them are not listed.
+/// refused; nothing where they are not found in that order, or are so many that choices among them are not listed.
 pub fn bases_from_last(
     alloc: Global,
     sig: &Signature,

@@ -2,6 +2,7 @@
 #![tactic(auto)]
 
 mod aliases;
+mod defining;
 mod last_first;
 mod laws;
 mod neutral;

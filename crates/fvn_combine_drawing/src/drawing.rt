@@ -45,7 +45,7 @@ pub fn draw(
     reading: &Reading,
     bases: &[Seq<Solution>],
     tags: &[Option<OpId>],
-    numbers: &[u32],
+    numbers: &[u128],
     variables: &[Var],
     first: u32,
     size: u64,

@@ -49,7 +49,7 @@ module _ (d : Declarations) (t : NodeTable) (class : ℕ → ℕ) (tag : ℕ →
   }
 
 -- the number after those of one more operator
-pub next_number : (next start i : ℕ) → next ≡ start + LISTED_SOLUTIONS * i → next + 31 ≡ start + LISTED_SOLUTIONS * (i + 1)
+pub next_number : (next start i : ℕ) → next ≡ start + LISTED_SOLUTIONS * i → next + 127 ≡ start + LISTED_SOLUTIONS * (i + 1)
 next_number next start i e = omega (arith, e)
 
 -- what is asked is within the columns and the solution

@@ -196,7 +196,7 @@ pub fn bindings(
     reading: &Reading,
     bases: &[Seq<Solution>],
     tags: &[Option<OpId>],
-    numbers: &[u32],
+    numbers: &[u128],
     first: u32,
 ) -> Result<Option<SolvedList>, NoMemory>
     requires ready { IsReady sig.now problem.now first table.now state.now }

@@ -60,7 +60,7 @@ fn shares_of(
     tags: &[Option<OpId>],
     sums: &Sums,
     basis: &[Solution],
-    number: u32,
+    number: u128,
     names: &[Var],
     start: u32,
 ) -> Result<Vec<Share>, NoMemory>
@@ -113,7 +113,7 @@ pub(crate) fn all_shares(
     reading: &Reading,
     tags: &[Option<OpId>],
     bases: &[Seq<Solution>],
-    numbers: &[u32],
+    numbers: &[u128],
     names: &[Var],
     start: u32,
 ) -> Result<Vec<Vec<Share>>, NoMemory>

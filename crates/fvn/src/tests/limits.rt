@@ -220,9 +220,10 @@ unify | X =? g(g(c(Y,Y))) /\\ Y =? c(Z,Z) /\\ Z =? c(U,U) /\\ U =? ~123%g(~a~123
 vunify | X =? g(c(Y,Y)) /\\ Y =? c(Z,Z) /\\ Z =? c(U,U) /\\ U =? ~123%g(~a~123%)~ ==> 0 | 1 lines | complete 1
 vunify | X =? g(g(c(Y,Y))) /\\ Y =? c(Z,Z) /\\ Z =? c(U,U) /\\ U =? ~123%g(~a~123%)~ ==> 5 | bound size 1000
 unify | X =? _+_(V:S~23%,V@:S~) ==> 0 | 1 lines | complete 1
-unify | X =? _+_(V:S~24%,V@:S~) ==> 5 | bound basis _+_
+unify | X =? _+_(V:S~24%,V@:S~) ==> 0 | 1 lines | complete 1
+unify | X =? ~40%g(_+_(~Y~40%,a))~ ==> 0 | 1 lines | complete 1
 vunify | X =? _+_(V:S~23%,V@:S~) ==> 0 | 1 lines | complete 1
-vunify | X =? _+_(V:S~24%,V@:S~) ==> 5 | bound basis _+_
+vunify | X =? _+_(V:S~24%,V@:S~) ==> 0 | 1 lines | complete 1
 unify | _+_(X~40%,X~) =? _+_(Y~39%,Y~) /\\ _+_(Y~40%,Y~) =? _+_(Z~39%,Z~) ==> 5 | bound basis _+_
 
 fmod DOUBLE is sort S . op a : -> S . ops f g : S -> S . op p : S S -> S . var X : S . eq f(X) = p(X,X) [variant] . endfm <=

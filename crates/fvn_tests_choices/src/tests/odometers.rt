@@ -80,15 +80,27 @@ fn tags(alloc: Global, digits: &str) -> Result<Tags, Fail> {
     Ok(Tags::new(alloc, counts)?)
 }
 
-fn push_list(text: &mut Vec<u8>, numbers: &[u32]) -> Result<(), NoMemory> {
+fn digit(number: u128) -> u8 {
+    match number {
+        0 => b'0',
+        1 => b'1',
+        2 => b'2',
+        3 => b'3',
+        _ => b'?',
+    }
+}
+
+fn push_choices(text: &mut Vec<u8>, numbers: &[u128]) -> Result<(), NoMemory> {
     for number in numbers {
-        text.push(match *number {
-            0 => b'0',
-            1 => b'1',
-            2 => b'2',
-            3 => b'3',
-            _ => b'?',
-        })?;
+        text.push(digit(*number))?;
+    }
+    text.push(b' ')?;
+    Ok(())
+}
+
+fn push_tags(text: &mut Vec<u8>, numbers: &[u32]) -> Result<(), NoMemory> {
+    for number in numbers {
+        text.push(digit(u128::from(*number)))?;
     }
     text.push(b' ')?;
     Ok(())
@@ -97,7 +109,7 @@ fn push_list(text: &mut Vec<u8>, numbers: &[u32]) -> Result<(), NoMemory> {
 fn shown_wheels(alloc: Global, wheels: &mut Wheels) -> Result<Vec<u8>, NoMemory> {
     let mut text = Vec::new(alloc);
     while let Some(numbers) = wheels.current() {
-        push_list(&mut text, numbers)?;
+        push_choices(&mut text, numbers)?;
         wheels.advance();
     }
     text.extend_from_slice(b"end")?;
@@ -107,7 +119,7 @@ fn shown_wheels(alloc: Global, wheels: &mut Wheels) -> Result<Vec<u8>, NoMemory>
 fn shown_tags(alloc: Global, tags: &mut Tags) -> Result<Vec<u8>, NoMemory> {
     let mut text = Vec::new(alloc);
     while let Some(numbers) = tags.current() {
-        push_list(&mut text, numbers)?;
+        push_tags(&mut text, numbers)?;
         tags.advance();
     }
     text.extend_from_slice(b"end")?;

@@ -18,7 +18,7 @@ fn worked(rt: &impl Abort, alloc: Global, constants: &[usize]) -> Result<Choices
 }
 
 /// The choices that come are these, and after them there is none.
-fn assert_given(rt: &impl Abort, choices: &mut Choices, want: &[u32]) {
+fn assert_given(rt: &impl Abort, choices: &mut Choices, want: &[u128]) {
     for number in want {
         assert_eq!(rt; choices.next(), Some(*number));
     }
@@ -29,7 +29,7 @@ fn assert_worked(
     rt: &impl Abort,
     alloc: Global,
     constants: &[usize],
-    want: &[u32],
+    want: &[u128],
 ) -> Result<(), Fail> {
     let mut choices = worked(rt, alloc, constants)?;
     assert_eq!(rt; choices.basis().len(), 4);
@@ -50,7 +50,12 @@ fn worked_choices_with_constants(rt: HostRuntime) -> Result<(), Fail> {
     assert_worked(&rt, rt.alloc(), &[1, 3], &[14, 6])
 }
 
-fn assert_full(rt: &impl Abort, alloc: Global, constants: &[usize], want: u32) -> Result<(), Fail> {
+fn assert_full(
+    rt: &impl Abort,
+    alloc: Global,
+    constants: &[usize],
+    want: u128,
+) -> Result<(), Fail> {
     let mut choices = worked(rt, alloc, constants)?;
     choices.list_full();
     assert_given(rt, &mut choices, &[want]);
@@ -69,7 +74,7 @@ fn assert_within(
     alloc: Global,
     most: &[usize],
     least: &[usize],
-    want: &[u32],
+    want: &[u128],
 ) -> Result<(), Fail> {
     let theory = one_row(alloc, &[1, 1, -1, -1], &[], true)?;
     assert!(rt; keeps(&theory));
@@ -221,7 +226,7 @@ fn part(solution: &Solution, column: usize) -> u64 {
 }
 
 /// The sum in a column of the solutions that a number chooses.
-fn plain_sum(basis: &[Solution], number: u32, column: usize) -> u64 {
+fn plain_sum(basis: &[Solution], number: u128, column: usize) -> u64 {
     let mut sum = 0u64;
     let mut bits = number;
     for solution in basis {
@@ -234,7 +239,7 @@ fn plain_sum(basis: &[Solution], number: u32, column: usize) -> u64 {
 }
 
 /// Whether one of the solutions that a number chooses is other than zero in two constant columns.
-fn is_shared(basis: &[Solution], number: u32, constants: &[usize]) -> bool {
+fn is_shared(basis: &[Solution], number: u128, constants: &[usize]) -> bool {
     let mut bits = number;
     for solution in basis {
         if bits % 2 == 1 && constants.iter().filter(|c| part(solution, **c) > 0).count() > 1 {
@@ -245,7 +250,7 @@ fn is_shared(basis: &[Solution], number: u32, constants: &[usize]) -> bool {
     false
 }
 
-fn is_plainly_valid(theory: &OneTheory, basis: &[Solution], number: u32) -> bool {
+fn is_plainly_valid(theory: &OneTheory, basis: &[Solution], number: u128) -> bool {
     for (column, may) in theory.may_be_zero.as_slice().iter().enumerate() {
         if !*may && plain_sum(basis, number, column) == 0 {
             return false;
@@ -267,7 +272,7 @@ fn assert_count_down(rt: &impl Abort, theory: &OneTheory, choices: &mut Choices)
     }
     let mut given = 0u64;
     for down in 0..1u32 << many {
-        let number = (1 << many) - 1 - down;
+        let number = u128::from((1 << many) - 1 - down);
         if is_plainly_valid(theory, choices.basis(), number) {
             assert_eq!(rt; choices.next(), Some(number));
             given = given.wrapping_add(1);

@@ -2,13 +2,15 @@
 use Rattle.fvn_combine_candidates.proofs.Turned.{turned_fits, turned_minimal}
 use Rattle.fvn_combine_candidates.proofs.last_first.basis_from_last.Goals as goal
 
+pub are_few_left-requires : goal.are_few_left-requires
+are_few_left-requires c = c.requires
+
 pub basis-requires : goal.basis-requires
-basis-requires c =
-    turned_fits c.args.sums.now.system c.in_ok-turned.turned c.in_ok-turned.ensures.columns c.in_ok-turned.ensures.rows c.requires
+basis-requires c = turned_fits c.args.sums.now.system c.in_ok-turned.turned c.in_ok-turned.ensures c.requires
 
 pub returns-in-Ok : goal.returns-in-Ok
 returns-in-Ok c =
-    let same = turned_minimal c.args.sums.now.system c.in_ok-turned.turned c.in_ok-turned.ensures.columns c.in_ok-turned.ensures.rows in
+    let same = turned_minimal c.args.sums.now.system c.in_ok-turned.turned c.in_ok-turned.ensures in
     record {
       exact = λ v. (λ m. (same v).0 ((c.in-Ok.ensures.exact v).0 m), λ h. (c.in-Ok.ensures.exact v).1 ((same v).1 h));
       ordered = c.in-Ok.ensures.ordered;

@@ -21,7 +21,7 @@ pub loop-self-preserved : goal.loop-self-preserved
 loop-self-preserved c =
     let inv = c.loop-self.invariant in
     let place = c.in-Some.place in
-    let small : place < 32 = omega (arith, c.in-Some.ensures.place, ap length c.as_slice-in-loop-self-2.ensures, inv.bounded.few) in
+    let small : place < 128 = omega (arith, c.in-Some.ensures.place, ap length c.as_slice-in-loop-self-2.ensures, inv.bounded.few) in
     record {
       constants = inv.constants;
       may_be_zero = inv.may_be_zero;
@@ -32,7 +32,7 @@ loop-self-preserved c =
       room = simp (length-take, length-append, length-drop) (omega (arith, c.loop-self.self-inside.sums.ok.0, inv.room, c.as_mut_slice.ensures.len));
       within = omega (arith, inv.within);
       lower = omega (arith, inv.lower);
-      left = λ a pending. rw (one_shl place 32 small)
+      left = λ a pending. rw (one_shl place 128 small)
           (jump_skips_none _ _ _ _ _ _ place c.in-Some.ensures.dead a (omega (arith, inv.left a pending))
           (IsListed-same (sym inv.full) (sym (c.as_slice.ensures.value ∙ inv.constants)) (sym (c.as_slice-in-loop-self.ensures.value ∙ inv.may_be_zero)) (sym inv.bounds) (sym (c.as_slice-in-loop-self-2.ensures ∙ inv.basis)) a pending.1));
     }
