@@ -21,7 +21,7 @@ search A0 A1 i A2 A3 i A4 A5 i k k = f A6 h i f A7 h i f A8 h i k k => few | 11 
 search A0 h A1 k o h l = A5 h A6 h k A8 h l => few | 3 2
 search A0 h A1 k o h l A2 k o h l = A5 h A6 h k A8 h l A7 h k A9 h l => few | 3 2
 search A1 f j h A2 f j h k A0 k = f f j h f o j h k A9 k => few | 13 12
-search A1 f j h A2 f j h k A3 f j h k A0 k = f f j h f o j h k f f j h k A9 k => few | 67 63
+search A1 f j h A2 f j h k A3 f j h k A0 k = f f j h f o j h k f f j h k A9 k => few | 37 35
 search A0 A1 j A2 A3 j i A4 A5 j i = f o j f o j i f o j i => few | 15 8
 search A0 A0 k = A1 A1 k => few | 1 1
 search A0 f k = A1 f k => few | 1 1
