@@ -24,7 +24,7 @@ use Rattle.fvn_combine_nodes.proofs.Admitting.{admits_same, admits_apart, named_
 use Rattle.fvn_combine_nodes.proofs.Nodes.{application_at}
 use Rattle.fvn_combine_nodes.proofs.NodesOf.{NodeOf, is_node, node_of, own_class}
 use Rattle.fvn_combine_systems.specs.Laws.{NodeSystemsAreSumSystems}
-use Rattle.fvn_combine_leaves.specs.Leaves.{IsSolid, MayBeConstant, HaveTwoHeads, AreTouched}
+use Rattle.fvn_combine_leaves.specs.Leaves.{IsSolid, MayBeConstant, HaveTwoHeads}
 use Rattle.fvn_combine_choices.proofs.Using.{solution_uses}
 use Rattle.fvn_combine.specs.Tasks.{Combining, IsCombining}
 use Rattle.fvn_combine.specs.Search.{IsEnd, IsRefusedAt, HasNoQuestion, HasNoChoiceAt, AdmitsOrIsParted}
@@ -128,7 +128,7 @@ module _ (partitions : NodePartitionsArePartitions) (systems : NodeSystemsAreSum
       abbrev cause_at : IsBasisCause k.declarations k.given f system
       cause_at = record {
         class = class_at k.table (class_of s);
-        partition = (partitions k.declarations k.given.pairs is.is_given.fit k.table is.well_made is.table_of).of_nodes (class_of s) refused.leaf.partition;
+        partition = (partitions k.declarations k.given.pairs is.is_given.fit k.table is.well_made is.table_of).of_nodes (class_of s) refused.leaf.leaf.partition;
         columns = refused.columns;
         is_system = systems k.declarations (problem_of k.given) k.table is.well_made is.table_of (class_of s) f associative refused.columns system refused.is_system;
         refused = refused.refused;
@@ -151,18 +151,9 @@ module _ (partitions : NodePartitionsArePartitions) (systems : NodeSystemsAreSum
           let x = class_at k.table (class_of s) j.first in
           let y = class_at k.table (class_of s) j.second in
           let solves = j.taken.minimal.solves in
-          let touched : AreTouched k.declarations k.table (class_of s) f x y = record {
-            columns = refused.columns;
-            system = system;
-            is = refused.is_system;
-            solution = j.taken.solution;
-            minimal = j.taken.minimal;
-            left = j.taken.left;
-            right = j.taken.right;
-          } in
           elim (
           refused.leaf.constants f x y (may_be_constant j.first j.first_node j.first_alien j.taken.solution solves j.taken.left)
-          (may_be_constant j.second j.second_node j.second_alien j.taken.solution solves j.taken.right) touched
+          (may_be_constant j.second j.second_node j.second_alien j.taken.solution solves j.taken.right)
           ) [
             | inl heads ↦ two_heads u unifies a j.first j.second j.first_node j.second_node j.equal heads
             | inr closed_pair ↦ elim (decided s x y) [

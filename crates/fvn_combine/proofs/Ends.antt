@@ -13,7 +13,7 @@ use Rattle.fvn_combine_nodes.specs.Unifiers.{kernel}
 use Rattle.fvn_combine_nodes.proofs.Admitting.{admits_itself}
 use Rattle.fvn_combine_nodes.specs.declared.state.State.{State}
 use Rattle.fvn_combine_systems.specs.NodeSystems.{IsNodeSystem}
-use Rattle.fvn_combine_leaves.specs.Leaves.{IsLeaf}
+use Rattle.fvn_combine_leaves.specs.Leaves.{IsFullLeaf}
 use Rattle.fvn_combine_leaves.specs.Readings.{AreSums, IsReading}
 use Rattle.fvn_combine_leaves.specs.declared.reading.Reading.{Reading}
 use Rattle.fvn_combine_drawing.specs.CombineCandidatesRefusals.{IsFirstRefused}
@@ -27,7 +27,7 @@ use Rattle.fvn_combine.specs.declared.ending.Ended.TheVariants.{Basis, Size}
 use Rattle.fvn_combine.proofs.Trees.{admitted_cases, admitted_one}
 
 -- what is refused of a reading of a leaf is a system of its classes
-pub refused_at : (k : Combining) (s : State) → IsLeaf k.declarations k.table s → (r : Reading) → IsReading k.declarations k.table (class_of s) r → (f : OpId) (system : System) → IsFirstRefused r.sums f system → IsRefusedAt k s f system
+pub refused_at : (k : Combining) (s : State) → IsFullLeaf k.declarations k.table s → (r : Reading) → IsReading k.declarations k.table (class_of s) r → (f : OpId) (system : System) → IsFirstRefused r.sums f system → IsRefusedAt k s f system
 refused_at k s leaf r reading f system h =
     let e = h.entry in
     let there : AreSums k.declarations k.table (class_of s) e =

@@ -9,7 +9,7 @@ use Rattle.fvn_combine_tree.specs.Trees.{AreClosed, AreInOrder}
 use Rattle.fvn_combine_nodes.specs.Unifiers.{kernel}
 use Rattle.fvn_combine_nodes.specs.declared.state.State.{State}
 use Rattle.fvn_combine_systems.specs.NodeSystems.{IsNodeSystem}
-use Rattle.fvn_combine_leaves.specs.Leaves.{IsLeaf}
+use Rattle.fvn_combine_leaves.specs.Leaves.{IsFullLeaf}
 use Rattle.fvn_combine.specs.Tasks.{Combining, IsCombining}
 use Rattle.fvn_combine.specs.Leaves.{IsOpened, IsCoveredToCome}
 use Rattle.fvn_combine.specs.declared.opened.Leaf.{Leaf}
@@ -28,9 +28,9 @@ abbrev pub IsEnd : Combining → Ended → Type 0
 IsEnd k (Basis f system) = IsBasisCause k.declarations k.given f system
 IsEnd k (Size list) = IsTooLarge k.declarations k.given k.size list.bindings
 
--- no question is open in the state, and the system, which is f's sum system under its classes, is refused
+-- no question is open in the state, whatever the minimal solutions are, and the system, which is f's sum system under its classes, is refused
 pub record IsRefusedAt (k : Combining) (s : State) (f : OpId) (system : System) : Type 0 where
-  pub leaf : IsLeaf k.declarations k.table s
+  pub leaf : IsFullLeaf k.declarations k.table s
   pub columns : List ℕ
   pub is_system : IsNodeSystem k.table (class_of s) f columns system
   pub refused : IsRefused system

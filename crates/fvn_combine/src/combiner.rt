@@ -212,12 +212,12 @@ impl<'a> Combiner<'a> {
         next_of(&mut self.parts)
     }
 
-    /// How many states were looked at so far, or the greatest number where there were more.
+    /// How many states were asked so far, or the greatest number where there were more.
     ///
-    /// A state says of some parts of the problem that they are equal and of others that they are not. It is looked at
-    /// once, and again with each fact that is found of it. No clause says how many states there are, and no answer
-    /// depends on it: a search that finds no facts gives the same unifiers, but may look at many times as many. Tests
-    /// hold the number.
+    /// A state says of some parts of the problem that they are equal and of others that they are not. With each fact
+    /// that is found of it, it is looked at again, and counted once, when no further fact is found. No clause says how
+    /// many states there are, and no answer depends on it: a search that finds no facts gives the same unifiers, but may
+    /// ask many times as many. Tests hold the number.
     pub fn states_asked(&self) -> u64 {
         self.parts.effort.states
     }

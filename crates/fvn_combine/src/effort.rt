@@ -5,10 +5,11 @@
 use fvn_combine_drawing::SolvedSystems;
 use std::alloc::Global;
 
-/// Sum systems that were solved, how many states were looked at, and how many choices were tried.
+/// Sum systems that were solved, whether one was refused, how many states were asked, and how many choices were tried.
 #[derive(Drop)]
 pub(crate) struct Effort {
     pub(crate) solved: SolvedSystems,
+    pub(crate) refused: bool,
     pub(crate) states: u64,
     pub(crate) choices: u64,
 }
@@ -18,12 +19,13 @@ impl Effort {
     pub(crate) fn new(alloc: Global) -> Effort {
         Effort {
             solved: SolvedSystems::new(alloc),
+            refused: false,
             states: 0,
             choices: 0,
         }
     }
 
-    // One state more is looked at.
+    // One state more is asked.
     pub(crate) fn count_state(&mut self) {
         self.states = self.states.saturating_add(1);
     }

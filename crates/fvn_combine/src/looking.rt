@@ -1,5 +1,5 @@
 //! What the top of a decision tree asks for.
-ghost use Rattle.std.specs.Prelude.{◌≡◌, ◌<◌, length, IfOk};
+ghost use Rattle.std.specs.Prelude.{◌≡◌, ◌<◌, length, IfOk, IfSome};
 ghost use Rattle.fvn_combine_tree.specs.Trees.{AreClosed};
 ghost use Rattle.fvn_combine_nodes.specs.States.{IsClosed, IsOpen, class_of};
 ghost use Rattle.fvn_combine_leaves.specs.Bases.{AreBases};
@@ -17,8 +17,8 @@ use crate::task::Task;
 use fvn_base::Seq;
 use fvn_combine_choices::classes_have_one_kind;
 use fvn_combine_drawing::{
-    OpenFault, SolvedSystems, bases, bases_from_last, bases_make_systems, readings_tell,
-    refusals_are_causes, sorted_leaves_cover, tables_have_sums,
+    OpenFault, bases, bases_from_last, bases_make_systems, readings_tell, refusals_are_causes,
+    sorted_leaves_cover, tables_have_sums,
 };
 use fvn_combine_inferring::{Inferred, Known, differ, infer, known_of, sorted_unifiers_go_with};
 use fvn_combine_leaves::Reading;
@@ -162,13 +162,79 @@ fn look_at_refused(
     }
 }
 
+// What is asked for by a state that is nearly a leaf, where systems are solved from their first rows on.
+fn look_at_systems(
+    task: &Task,
+    state: &State,
+    reading: Reading,
+    known: Known,
+    effort: &mut Effort,
+) -> Result<Looked, NoMemory>
+    requires near { IsNearLeaf task.now.declarations task.now.table state.now }
+    requires kinds { AreOfOneKind task.now.declarations task.now.table (class_of state.now) }
+    requires reading { IsReading task.now.declarations task.now.table (class_of state.now) reading }
+    requires heads { TellHeads task.now.declarations task.now.table state.now known.sorted
+        known.heads.items }
+    requires sorted { known.sorted ≡ task.now.sorted }
+    ensures { IfOk result (IsLookedAt task.now state.now) }
+{
+    task.recall();
+    match bases(
+        task.alloc,
+        task.sig,
+        &task.table,
+        state,
+        &reading,
+        &mut effort.solved,
+    ) {
+        Err(OpenFault::NoMemory) => Err(NoMemory),
+        Err(OpenFault::Basis(f, system)) => {
+            effort.refused = true;
+            let looked = look_at_refused(task, state, reading, known, f, system)?;
+            Ok(looked)
+        }
+        Ok(bases) => {
+            let looked = look_at_bases(task, state, reading, known, bases)?;
+            Ok(looked)
+        }
+    }
+}
+
+// The minimal solutions for a state that is nearly a leaf, found from the last rows on, where a system was refused
+// before: then most systems of the problem are.
+fn turned_bases(
+    task: &Task,
+    state: &State,
+    reading: &Reading,
+    effort: &Effort,
+) -> Result<Option<Vec<Seq<Solution>>>, NoMemory>
+    requires near { IsNearLeaf task.now.declarations task.now.table state.now }
+    requires reading { IsReading task.now.declarations task.now.table (class_of state.now)
+        reading.now }
+    ensures { IfOk result (λ o. IfSome o (λ v. AreBases reading.now.sums v.items)) }
+{
+    task.recall();
+    if !effort.refused {
+        return Ok(None);
+    }
+    let found = bases_from_last(
+        task.alloc,
+        task.sig,
+        &task.table,
+        state,
+        reading,
+        task.sorted,
+    )?;
+    Ok(found)
+}
+
 // What is asked for by a state that is nearly a leaf.
 fn look_at_near_leaf(
     task: &Task,
     state: &State,
     reading: Reading,
     known: Known,
-    solved: &mut SolvedSystems,
+    effort: &mut Effort,
 ) -> Result<Looked, NoMemory>
     requires near { IsNearLeaf task.now.declarations task.now.table state.now }
     requires reading { IsReading task.now.declarations task.now.table (class_of state.now) reading }
@@ -182,14 +248,13 @@ fn look_at_near_leaf(
     if !are_of_one_kind(task, state) {
         return Ok(Looked::Passed);
     }
-    match bases(task.alloc, task.sig, &task.table, state, &reading, solved) {
-        Err(OpenFault::NoMemory) => Err(NoMemory),
-        Err(OpenFault::Basis(f, system)) => {
-            let looked = look_at_refused(task, state, reading, known, f, system)?;
+    match turned_bases(task, state, &reading, effort)? {
+        Some(bases) => {
+            let looked = look_at_bases(task, state, reading, known, bases)?;
             Ok(looked)
         }
-        Ok(bases) => {
-            let looked = look_at_bases(task, state, reading, known, bases)?;
+        None => {
+            let looked = look_at_systems(task, state, reading, known, effort)?;
             Ok(looked)
         }
     }
@@ -201,7 +266,7 @@ fn look_further(
     state: &State,
     reading: Reading,
     known: Known,
-    solved: &mut SolvedSystems,
+    effort: &mut Effort,
 ) -> Result<Looked, NoMemory>
     requires closed { IsClosed task.now.declarations task.now.table state.now }
     requires reading { IsReading task.now.declarations task.now.table (class_of state.now) reading }
@@ -213,14 +278,14 @@ fn look_further(
     match first_question(task.sig, &task.table, state, &reading) {
         Some((i, j)) => Ok(asked(task, state, &known, i, j)),
         None => {
-            let looked = look_at_near_leaf(task, state, reading, known, solved)?;
+            let looked = look_at_near_leaf(task, state, reading, known, effort)?;
             Ok(looked)
         }
     }
 }
 
 // What is asked for by a state: first what all unifiers say of it.
-fn look_at(task: &Task, state: &State, solved: &mut SolvedSystems) -> Result<Looked, NoMemory>
+fn look_at(task: &Task, state: &State, effort: &mut Effort) -> Result<Looked, NoMemory>
     requires { IsClosed task.now.declarations task.now.table state.now }
     ensures { IfOk result (IsLookedAt task.now state.now) }
 {
@@ -243,13 +308,18 @@ fn look_at(task: &Task, state: &State, solved: &mut SolvedSystems) -> Result<Loo
         Inferred::Together(i, j) => Ok(Looked::Together(i, j)),
         Inferred::Question(i, j) => Ok(Looked::Open(i, j)),
         Inferred::Nothing => {
-            let looked = look_further(task, state, reading, known, solved)?;
+            let looked = look_further(task, state, reading, known, effort)?;
             Ok(looked)
         }
     }
 }
 
-// What the last state asks for. That it is looked at is counted.
+// Whether what is asked for is a fact of the state, so that nothing is asked.
+fn is_fact(looked: &Looked) -> bool {
+    matches!(looked, Looked::Together(_, _) | Looked::Apart(_, _))
+}
+
+// What the last state asks for. It is counted where that is no fact: with a fact the same state is looked at again.
 pub(crate) fn look(task: &Task, tree: &Tree, effort: &mut Effort) -> Result<Looked, NoMemory>
     requires { AreClosed task.now.declarations task.now.table tree.now }
     ensures { IfOk result (IsLooked task.now tree.now) }
@@ -257,8 +327,10 @@ pub(crate) fn look(task: &Task, tree: &Tree, effort: &mut Effort) -> Result<Look
     match tree.top() {
         None => Ok(Looked::Over),
         Some(state) => {
-            effort.count_state();
-            let looked = look_at(task, state, &mut effort.solved)?;
+            let looked = look_at(task, state, effort)?;
+            if !is_fact(&looked) {
+                effort.count_state();
+            }
             Ok(looked)
         }
     }

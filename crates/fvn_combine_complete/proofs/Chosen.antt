@@ -36,7 +36,7 @@ use Rattle.fvn_combine_complete.proofs.Marked.{number_by, marked, number_small, 
 use Rattle.fvn_combine_complete.proofs.Taken.{contains_counted, laid_counts, sum_by_alike}
 use Rattle.fvn_combine_complete.proofs.Touching.{touched_none}
 use Rattle.fvn_combine_complete.proofs.TwoSummands.{shared_two}
-use Rattle.fvn_combine_complete.proofs.Values.{bound_used, may_be, constants_differ}
+use Rattle.fvn_combine_complete.proofs.Values.{bound_used, may_be, constants_differ, alike_live}
 
 -- some component of a vector that is not zero
 some_component : (v : List ℕ) → 0 < sum_by (λ a. a) v → (j : ℕ) × (j < length v) × (0 < get_or v j 0)
@@ -203,28 +203,32 @@ module _ (d : Declarations) (t : NodeTable) (made : IsWellMade t) (has : HasSums
       let grow = sums_grow also a.column marks ch.pieces (y.basis f) are in
       omega (arith, count, sums, few, grow)
 
-  -- constants of one solution that is taken have one value, so that they are one
+  -- constants of one solution that is taken have one value
+  alike_taken : (m : ℕ) (v : List ℕ) → m < length (taken y c f) → get_or (taken y c f) m [] ≡ v → (k l : ℕ) → IsConstant d t class c.tag f k → IsConstant d t class c.tag f l → 0 < component (y.columns f) v k → 0 < component (y.columns f) v l → values k ≡ values l
+  alike_taken m v within is k l hk hl p q =
+      let left = ap (λ v. component (y.columns f) v k) is in
+      let right = ap (λ v. component (y.columns f) v l) is in
+      let one = alone_piece m k within hk (omega (arith, left, p)) in
+      let other = alone_piece m l within hl (omega (arith, right, q)) in
+      let lists : values k ∷ [] ≡ values l ∷ [] = sym one ∙ other in
+      cc
+
+  -- so that they are one
   constants_apart : (k l : ℕ) → IsConstant d t class c.tag f k → IsConstant d t class c.tag f l → AreTakenTogether d t class y c f k l → k ≡ l
   constants_apart k l hk hl together = elim (cases_eq k l) [
     | inl e ↦ e
     | inr n ↦
         let m = together.among in
         let is : get_or (taken y c f) m.0 [] ≡ together.solution = get_or_default (taken y c f) m.0 [] together.solution m.1 ∙ m.2 in
-        let left = ap (λ v. component (y.columns f) v k) is in
-        let right = ap (λ v. component (y.columns f) v l) is in
-        let p = together.left in
-        let q = together.right in
-        let one = alone_piece m.0 k m.1 hk (omega (arith, left, p)) in
-        let other = alone_piece m.0 l m.1 hl (omega (arith, right, q)) in
-        let lists : values k ∷ [] ≡ values l ∷ [] = sym one ∙ other in
-        let same : values k ≡ values l = cc in
+        let alike = alike_taken m.0 together.solution m.1 is in
         let r = from m.0 m.1 in
         let v_is : get_or (y.basis f) r.place [] ≡ together.solution = sym (solution_from m.0 m.1) ∙ is in
         let minimal = (exact together.solution).0 (subst (Contains (y.basis f)) v_is (Contains-get_or (y.basis f) r.place [] r.within)) in
         absurd (constants_differ d t made has s leaf told values go_with c.tag obey f k l hk hl n
         (leaf.constants f k l (may_be d t made has s leaf told values go_with c.tag obey f k hk) (may_be d t made has s leaf told values go_with c.tag obey f l hl)
-        (record { columns = y.columns f; system = y.system f; is = is_node_system; solution = together.solution; minimal = minimal; left = p; right = q }))
-        same)
+        (record { columns = y.columns f; system = y.system f; is = is_node_system; solution = together.solution; minimal = minimal; left = together.left; right = together.right })
+        (alike_live d t made has s leaf told values go_with c.tag obey f (y.columns f) together.solution alike))
+        (alike k l hk hl together.left together.right))
   ]
 
   pub acceptable : NoAliases → IsAcceptable d t class y c f

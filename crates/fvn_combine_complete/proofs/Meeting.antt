@@ -2,7 +2,7 @@
 use Rattle.std.proofs.Common.{◌≡◌, ◌≢◌, ℕ, zero, ◌<◌, List, [], ◌∷◌, length, get_or, sym, ap, ◌∙◌, subst, inl, inr, arith, Contains, Option, slice_get}
 use Rattle.std.specs.Prelude.{Bool, pos, ◌↔◌}
 use Rattle.std.proofs.lemmas.Bool.{cases_order}
-use Rattle.std.proofs.lemmas.List.{get_or-map}
+use Rattle.std.proofs.lemmas.List.{get_or-map, get_or_default}
 use Rattle.std.proofs.lemmas.List.Elements.{All-contains}
 use Rattle.fvn_base.proofs.Membership.{contains_map}
 use Rattle.fvn_terms.specs.declared.plain.OpId.{OpId}
@@ -23,12 +23,13 @@ use Rattle.fvn_combine_nodes.proofs.Lists.{all_from}
 use Rattle.fvn_combine_systems.specs.NodeSystems.{addends, sums, coefficient, row_at, IsNodeSystem}
 use Rattle.fvn_combine_systems.specs.Values.{AddUp, AddsNothing}
 use Rattle.fvn_combine_systems.specs.Laws.{CountsSolve}
+use Rattle.fvn_combine_supports.specs.Pieces.{AreAlike}
 use Rattle.fvn_combine_leaves.specs.Leaves.{IsLeaf, IsSumOperator, Uses}
-use Rattle.fvn_combine_choices.specs.Binding.{AreAsked}
+use Rattle.fvn_combine_choices.specs.Binding.{IsConstant, AreAsked}
 use Rattle.fvn_combine_choices.specs.Tables.{HasSums}
 use Rattle.fvn_combine_complete.specs.Obeying.{IsTold, GoWith, ObeyTags}
 use Rattle.fvn_combine_complete.specs.Laws.{CountsMeet}
-use Rattle.fvn_combine_complete.proofs.Values.{constant_alone, constants_differ, may_be, bound_used, required_some}
+use Rattle.fvn_combine_complete.proofs.Values.{constant_alone, constants_differ, alike_live, may_be, bound_used, required_some}
 pub use Rattle.fvn_combine_systems.proofs.Weighing.{component_at}
 
 -- a column that f uses is used by some row
@@ -58,6 +59,25 @@ module _ (law : CountsSolve) (d : Declarations) (t : NodeTable) (made : IsWellMa
   ]
 
   module _ (basis : List (List ℕ)) (exact : (v : List ℕ) → Contains basis v ↔ IsMinimal system.columns (rows_of system) v) (constants : List ℕ) (may_be_zero : List Bool) (asked : AreAsked d t (class_of s) tag f columns constants may_be_zero) where
+    -- constants that a vector has have one value, where the flat forms of its constant columns are one
+    alike_values : (v : List ℕ) → AreAlike constants v (λ j. values (get_or columns j 0)) → (k l : ℕ) → IsConstant d t (class_of s) tag f k → IsConstant d t (class_of s) tag f l → 0 < component columns v k → 0 < component columns v l → values k ≡ values l
+    alike_values v alike k l hk hl left right =
+        let i = column_of k hk in
+        let j = column_of l hl in
+        let a = component_at columns v is.distinct i.0 i.1 in
+        let b = component_at columns v is.distinct j.0 j.1 in
+        let at_i = ap (component columns v) i.2 in
+        let at_j = ap (component columns v) j.2 in
+        sym (ap values i.2)
+        ∙ alike i.0 j.0 ((asked.are_constant i.0).1 (i.1, subst (IsConstant d t (class_of s) tag f) (sym i.2) hk)) ((asked.are_constant j.0).1 (j.1, subst (IsConstant d t (class_of s) tag f) (sym j.2) hl))
+        (omega (arith, a, at_i, left)) (omega (arith, b, at_j, right))
+        ∙ ap values j.2
+      where
+        column_of : (k : ℕ) → IsConstant d t (class_of s) tag f k → (j : ℕ) × (j < length columns) × (get_or columns j 0 ≡ k)
+        column_of k h =
+            let m = (is.exact k).1 h.used.column in
+            (m.0, m.1, get_or_default columns m.0 0 k m.1 ∙ m.2)
+
     pub counts_meet : CountsMeet d f values columns system basis constants may_be_zero
     counts_meet =
         let solve = (law d t (class_of s) f sum.associative columns system is values go_with.are.settled adds_nothing).0 add_up in
@@ -73,7 +93,7 @@ module _ (law : CountsSolve) (d : Declarations) (t : NodeTable) (made : IsWellMa
                 let n = (solve q).1.used c r.0 (not_unused d t (class_of s) f columns system is c r.0 r.1.used) in
                 let a = ap (count q) (constant_alone d t made has s leaf told values go_with tag obey f k r.1) in
                 omega (arith, n, a);
-            different = λ c e m n ne v b p q.
+            different = λ c e m n ne v b p q alike.
                 let rc = (asked.are_constant c).0 m in
                 let re = (asked.are_constant e).0 n in
                 let k = get_or columns c 0 in
@@ -82,7 +102,9 @@ module _ (law : CountsSolve) (d : Declarations) (t : NodeTable) (made : IsWellMa
                 let right : 0 < component columns v l = let a = component_at columns v is.distinct e re.0 in omega (arith, a, q) in
                 constants_differ d t made has s leaf told values go_with tag obey f k l rc.1 re.1 (columns_apart c e ne rc.0 re.0)
                 (leaf.constants f k l (may_be d t made has s leaf told values go_with tag obey f k rc.1) (may_be d t made has s leaf told values go_with tag obey f l re.1)
-                (record { columns = columns; system = system; is = is; solution = v; minimal = (exact v).0 b; left = left; right = right }));
+                (record { columns = columns; system = system; is = is; solution = v; minimal = (exact v).0 b; left = left; right = right })
+                (alike_live d t made has s leaf told values go_with tag obey f columns v (alike_values v alike)))
+                (alike c e m n p q);
             filled = λ j z.
                 let r = (asked.required j).0 z in
                 let k = get_or columns j 0 in

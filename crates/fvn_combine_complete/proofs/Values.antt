@@ -19,6 +19,7 @@ use Rattle.fvn_forms.proofs.Sums.{same_op_itself}
 use Rattle.fvn_forms.proofs.Build.{count_parts_build}
 use Rattle.fvn_lindio.specs.Systems.{above, below}
 use Rattle.fvn_flat.specs.Forms.{head_of}
+use Rattle.fvn_flat.specs.SolvedLists.{component}
 use Rattle.fvn_flat.specs.Partitions.{HasNoIdentity}
 use Rattle.fvn_combine_nodes.specs.Table.{NodeTable, IsWellMade, IsOver}
 use Rattle.fvn_combine_nodes.specs.States.{IsOpen, class_of}
@@ -29,7 +30,7 @@ use Rattle.fvn_combine_nodes.proofs.Heading.{identity_of, some_part, build_head}
 use Rattle.fvn_combine_systems.specs.NodeSystems.{is_headed, addends, stands_in, coefficient, IsNodeColumn}
 use Rattle.fvn_combine_systems.proofs.Members.{column_of_node, over_addends}
 use Rattle.fvn_combine_systems.proofs.Weighing.{balance}
-use Rattle.fvn_combine_leaves.specs.Leaves.{IsSolid, Uses, IsShared, MayBeConstant, HaveTwoHeads, IsLeaf}
+use Rattle.fvn_combine_leaves.specs.Leaves.{IsSolid, Uses, IsShared, IsSingle, MayBeConstant, HaveTwoHeads, AreTold, IsLive, IsLeaf}
 use Rattle.fvn_combine_choices.specs.Binding.{IsBound, solid, alone, tagged, IsConstant, IsRequired}
 use Rattle.fvn_combine_choices.specs.Tables.{HasSums}
 use Rattle.fvn_combine_complete.specs.Obeying.{IsTold, GoWith, IsSumOf, ObeyTags}
@@ -138,6 +139,15 @@ module _ (d : Declarations) (t : NodeTable) (made : IsWellMade t) (has : HasSums
   pub constant_alone : (f : OpId) (k : ℕ) → IsConstant d t class tag f k → parts d f (values k) ≡ values k ∷ []
   constant_alone f k h = single_part d f (values k) (constant_no_sum f k h) (constant_no_identity f k h)
 
+  -- a single summand is a constant, whatever the tags are
+  pub single_constant : (f : OpId) (k : ℕ) → IsSingle d t class f k → IsConstant d t class tag f k
+  single_constant f k h = record { used = h.used; not_bound = unbound }
+    where
+      unbound : IsBound d t class tag f k → ⊥
+      unbound (solid associative own) = h.other (let e : Some h.head ≡ Some f = sym (head_of_solid h.head k h.solid) ∙ head_of_solid f k own in cc)
+      unbound (alone used soft only) = soft h.head h.solid
+      unbound (tagged used shared is) = shared.soft h.head h.solid
+
   -- two constants that are touched together differ
   pub constants_differ : (f : OpId) (k l : ℕ) → IsConstant d t class tag f k → IsConstant d t class tag f l → k ≢ l → HaveTwoHeads d t class k l ⊎ (IsOpen s k l → ⊥) → values k ≢ values l
   constants_differ f k l hk hl n (inl two) e = two.different (let p : Some two.first ≡ Some two.second = sym (head_of_solid two.first k two.heads_first) ∙ ap head_of e ∙ head_of_solid two.second l two.heads_second in cc)
@@ -148,6 +158,12 @@ module _ (d : Declarations) (t : NodeTable) (made : IsWellMade t) (has : HasSums
       | inr m ↦ m (e ∙ sym (ap values (own_name f l hl.used.column).own))
     ]
   ]
+
+  -- a solution whose constants all have one value may stand for a summand
+  pub alike_live : (f : OpId) (columns solution : List ℕ) → ((k l : ℕ) → IsConstant d t class tag f k → IsConstant d t class tag f l → 0 < component columns solution k → 0 < component columns solution l → values k ≡ values l)
+      → IsLive d t s f columns solution
+  alike_live f columns solution alike k l n single other left right told_apart =
+      constants_differ f k l (single_constant f k single) (single_constant f l other) n told_apart (alike k l (single_constant f k single) (single_constant f l other) left right)
 
   -- what an associative operator without an identity heads is used
   module _ (f : OpId) (k : ℕ) (assoc : IsAssociative (axioms d f)) (h : IsSolid d t class f k) where

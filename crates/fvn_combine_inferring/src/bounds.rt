@@ -1,12 +1,12 @@
 //! How many summands the value of a class has at least, and at most.
-ghost use Rattle.std.specs.Prelude.{◌≡◌, ℕ, ◌<◌, ◌≤◌, true, false, length, slice_index_or, sum_by, All, IsTrue};
+ghost use Rattle.std.specs.Prelude.{◌≡◌, ℕ, ◌<◌, ◌≤◌, ◌&&◌, true, false, nat_eq, length, slice_index, slice_index_or, sum_by, All, IsTrue};
 ghost use Rattle.fvn_forms.specs.Flat.{FlatTerm};
 ghost use Rattle.fvn_combine_bounds.specs.CombineChoicesTables.{HasSums};
 ghost use Rattle.fvn_combine_nodes.specs.States.{IsClosed, IsNaming, class_of, is_apart};
 ghost use Rattle.fvn_combine_inferring.specs.Inferred.{TellHeads};
 ghost use Rattle.fvn_combine_inferring.specs.Rows.{many, HasSummand, HasFewSummands, IsSummand};
 ghost use Rattle.fvn_combine_inferring.specs.Sorted.{GoWithSorts};
-ghost use Rattle.fvn_combine_inferring.specs.inner.Bounds.{IsOtherHead, IsHeadedApart, IsMarked};
+ghost use Rattle.fvn_combine_inferring.specs.inner.Bounds.{IsOtherHead, IsHeadedApart, IsMarked, is_kept};
 ghost use Rattle.fvn_combine_inferring.specs.inner.Splits.{IsAddition};
 
 use crate::expressions::{Addition, unit_of};
@@ -47,6 +47,34 @@ pub(crate) fn is_headed_apart(
     }
 }
 
+// Whether the classes of nodes k and l are a and b.
+fn are_of(names: &[usize], k: usize, l: usize, a: usize, b: usize) -> bool
+    requires left { k < length names.now }
+    requires right { l < length names.now }
+    ensures { result ≡ (nat_eq (slice_index names.now k) a && nat_eq (slice_index names.now l) b) }
+{
+    if names[k] != a {
+        return false;
+    }
+    names[l] == b
+}
+
+// Whether classes a and b are kept apart by one of the pairs.
+fn keeps_apart(names: &[usize], apart: &[(usize, usize)], a: usize, b: usize) -> bool
+    requires { All (λ p. (p.0 < length names.now) × (p.1 < length names.now)) apart.now }
+    ensures { result ≡ is_kept names.now a b apart.now }
+{
+    for (k, l) in apart {
+        if are_of(names, *k, *l, a, b) {
+            return true;
+        }
+        if are_of(names, *k, *l, b, a) {
+            return true;
+        }
+    }
+    false
+}
+
 // Whether two nodes are kept apart.
 pub(crate) fn are_apart(state: &State, i: usize, j: usize) -> bool
     requires naming { IsNaming state.now }
@@ -54,10 +82,8 @@ pub(crate) fn are_apart(state: &State, i: usize, j: usize) -> bool
     requires right { j < length state.now.names }
     ensures { IsTrue result → is_apart state.now i j ≡ true }
 {
-    if state.is_same(i, j) {
-        return false;
-    }
-    !state.is_open(i, j)
+    let names = state.names.as_slice();
+    keeps_apart(names, state.apart.as_slice(), names[i], names[j])
 }
 
 // Whether the class of node k is kept apart from f's identity.

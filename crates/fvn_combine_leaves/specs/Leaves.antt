@@ -52,6 +52,13 @@ module _ (d : Declarations) (t : NodeTable) where
       pub used : Uses f k
       pub why : ((g : OpId) × (g ≢ f) × IsSolid g k) ⊎ IsShared k
 
+    -- f uses class k, and another operator, without an identity, heads a member: its value is one summand in the sums of f
+    pub record IsSingle (f : OpId) (k : ℕ) : Type 0 where
+      pub used : Uses f k
+      pub head : OpId
+      pub other : head ≢ f
+      pub solid : IsSolid head k
+
     -- different operators without identities head members of the classes
     pub record HaveTwoHeads (k l : ℕ) : Type 0 where
       pub first : OpId
@@ -77,14 +84,28 @@ module _ (d : Declarations) (t : NodeTable) where
     -- whether a shared class has the identity of an operator that uses it
     pub identities : (f : OpId) (k : ℕ) → IsShared (class_of s) k → Uses (class_of s) f k → (p : OpId × ℕ) → Contains t.units p → p.0 ≡ f → IsOpen s k p.1 → ⊥
 
+  -- the classes have two heads, or whether they are one is not open
+  abbrev pub AreTold : State → ℕ → ℕ → Type 0
+  AreTold s k l = HaveTwoHeads (class_of s) k l ⊎ (IsOpen s k l → ⊥)
+
+  -- a solution for f, one part a column, may stand for a summand: of no two classes that are single summands, and that it has, is it told that they differ
+  abbrev pub IsLive : State → OpId → (columns solution : List ℕ) → Type 0
+  IsLive s f columns solution = (k l : ℕ) → k ≢ l → IsSingle (class_of s) f k → IsSingle (class_of s) f l
+    → 0 < component columns solution k → 0 < component columns solution l → AreTold s k l → ⊥
+
   -- Nothing is open that decides what a class is bound to.
   pub record IsLeaf (s : State) : Type 0 where
     pub closed : IsClosed d t s
     pub partition : IsNodePartition d t (class_of s)
     -- whether a shared class has the identity of an operator that uses it
     pub identities : (f : OpId) (k : ℕ) → IsShared (class_of s) k → Uses (class_of s) f k → (p : OpId × ℕ) → Contains t.units p → p.0 ≡ f → IsOpen s k p.1 → ⊥
-    -- whether two classes are one, where both may be constants of an operator and a minimal solution has both
-    pub constants : (f : OpId) (k l : ℕ) → MayBeConstant (class_of s) f k → MayBeConstant (class_of s) f l → AreTouched (class_of s) f k l → HaveTwoHeads (class_of s) k l ⊎ (IsOpen s k l → ⊥)
+    -- whether two classes are one, where both may be constants of an operator and a minimal solution that may stand for a summand has both
+    pub constants : (f : OpId) (k l : ℕ) → MayBeConstant (class_of s) f k → MayBeConstant (class_of s) f l → (both : AreTouched (class_of s) f k l) → IsLive s f both.columns both.solution → AreTold s k l
+
+  -- The same, whatever the minimal solutions are.
+  pub record IsFullLeaf (s : State) : Type 0 where
+    pub leaf : IsLeaf s
+    pub constants : (f : OpId) (k l : ℕ) → MayBeConstant (class_of s) f k → MayBeConstant (class_of s) f l → AreTold s k l
 
   -- the question on two nodes is open; where there is none, the state is nearly a leaf
   abbrev pub IsFirstQuestion : State → Option (ℕ × ℕ) → Type 0
@@ -95,3 +116,8 @@ module _ (d : Declarations) (t : NodeTable) where
   abbrev pub IsQuestion : State → Option (ℕ × ℕ) → Type 0
   IsQuestion s None = IsLeaf s
   IsQuestion s (Some p) = (p.0 < length t.nodes) × (p.1 < length t.nodes) × IsOpen s p.0 p.1
+
+  -- the same; where there is none, it is one whatever the minimal solutions are
+  abbrev pub IsFullQuestion : State → Option (ℕ × ℕ) → Type 0
+  IsFullQuestion s None = IsFullLeaf s
+  IsFullQuestion s (Some p) = (p.0 < length t.nodes) × (p.1 < length t.nodes) × IsOpen s p.0 p.1

@@ -1,7 +1,7 @@
 -- What a reading tells of a state, and leaves.
 use Rattle.std.proofs.Common.{◌≡◌, ◌≢◌, ◌⊎◌, ℕ, ◌<◌, List, [], ◌∷◌, length, get_or, sym, ap, ◌∙◌, subst, subst₂, slice_get, inl, inr, arith, All, Contains, Option, Some, None}
 use Rattle.std.proofs.lemmas.List.{get_or_default}
-use Rattle.std.proofs.lemmas.List.Elements.{All-contains}
+use Rattle.std.proofs.lemmas.List.Elements.{All-contains, Contains-get_or}
 use Rattle.std.proofs.lemmas.Option.{slice_get_within, slice_get-get_or}
 use Rattle.fvn_base.proofs.Options.{Some-injective}
 use Rattle.fvn_base.proofs.Membership.{contains_map, map_contains}
@@ -17,15 +17,15 @@ use Rattle.fvn_combine_nodes.specs.declared.state.State.{State}
 use Rattle.fvn_combine_nodes.proofs.Nodes.{arguments_within}
 use Rattle.fvn_combine_nodes.proofs.Lists.{all_from}
 use Rattle.fvn_combine_systems.proofs.Weighing.{component_at}
-use Rattle.fvn_combine_leaves.specs.Leaves.{IsSolid, Uses, IsShared, MayBeConstant, HaveTwoHeads, AreTouched, IsNearLeaf, IsLeaf, IsFirstQuestion, IsQuestion}
+use Rattle.fvn_combine_leaves.specs.Leaves.{IsSolid, Uses, IsShared, MayBeConstant, IsSingle, HaveTwoHeads, AreTouched, AreTold, IsLive, IsNearLeaf, IsLeaf, IsFirstQuestion, IsQuestion, IsFullQuestion}
 use Rattle.fvn_combine_leaves.specs.Bases.{AreBases}
 use Rattle.fvn_combine_leaves.specs.Readings.{AreSums, IsReading}
 use Rattle.fvn_combine_questions.specs.inner.Past.{IsOpenPairOr, IsPastIdentity, ArePastIdentities, ArePastClasses, ArePastPairs}
 use Rattle.fvn_combine_leaves.specs.Users.{IsWhole, IsMarked, head_of, IsSharedIn, CanStand, CanBeConstant, HaveHeads}
-use Rattle.fvn_combine_questions.specs.inner.Touched.{AreAllWide, HaveBoth, AreAllPast}
+use Rattle.fvn_combine_questions.specs.inner.Touched.{AreAllWide, IsSingleIn, AreToldIn, IsDead, IsPastSolution, AreAllPast}
 use Rattle.fvn_combine_leaves.specs.declared.reading.Sums.{Sums}
 use Rattle.fvn_combine_leaves.specs.declared.reading.Reading.{Reading}
-use Rattle.fvn_combine_leaves.proofs.ReadOfState.{column_within, reading_whole as whole_of_nodes, marked_to, entry_of, shared_in}
+use Rattle.fvn_combine_leaves.proofs.ReadOfState.{column_within, reading_whole as whole_of_nodes, marked_to, marked_from, entry_of, shared_in}
 use Rattle.fvn_combine_questions.proofs.Carrying.{carry, carried, minimal_carried}
 
 -- what stands at a place is in the list
@@ -100,7 +100,7 @@ module _ (d : Declarations) (t : NodeTable) (made : IsWellMade t) (s : State) (c
     first_asked partition (Some p) h = pair_question ((k : ℕ) → k < length s.names → IsSharedIn r k → ArePastIdentities t s r.sums k) p h
 
     -- a leaf, where classes that may be constants and that a solution has both of are told apart
-    leaf_is : IsNearLeaf d t s → ((f : OpId) (k l : ℕ) → MayBeConstant d t (class_of s) f k → MayBeConstant d t (class_of s) f l → AreTouched d t (class_of s) f k l → HaveTwoHeads d t (class_of s) k l ⊎ (IsOpen s k l → ⊥)) → IsLeaf d t s
+    leaf_is : IsNearLeaf d t s → ((f : OpId) (k l : ℕ) → MayBeConstant d t (class_of s) f k → MayBeConstant d t (class_of s) f l → (both : AreTouched d t (class_of s) f k l) → IsLive d t s f both.columns both.solution → AreTold d t s k l) → IsLeaf d t s
     leaf_is near h = record {
       closed = near.closed;
       partition = near.partition;
@@ -109,10 +109,13 @@ module _ (d : Declarations) (t : NodeTable) (made : IsWellMade t) (s : State) (c
     }
 
     -- the answer where all pairs are asked
-    pub asked_on_all : IsNearLeaf d t s → (o : Option (ℕ × ℕ)) → IsOpenPairOr s (All (λ e. ArePastPairs s r e e.columns) r.sums) o → IsQuestion d t s o
-    asked_on_all near None pairs = leaf_is near (λ f k l mk ml touched.
-        let a = entry_of d t made s closed r reading f k mk.used in
-        apart_at pairs a.entry a.listed k l (subst (λ o. MayBeConstant d t (class_of s) o k) (sym a.operator) mk) (subst (λ o. MayBeConstant d t (class_of s) o l) (sym a.operator) ml))
+    pub asked_on_all : IsNearLeaf d t s → (o : Option (ℕ × ℕ)) → IsOpenPairOr s (All (λ e. ArePastPairs s r e e.columns) r.sums) o → IsFullQuestion d t s o
+    asked_on_all near None pairs = record { leaf = leaf_is near (λ f k l mk ml both live. told f k l mk ml); constants = told }
+      where
+        told : (f : OpId) (k l : ℕ) → MayBeConstant d t (class_of s) f k → MayBeConstant d t (class_of s) f l → AreTold d t s k l
+        told f k l mk ml =
+            let a = entry_of d t made s closed r reading f k mk.used in
+            apart_at pairs a.entry a.listed k l (subst (λ o. MayBeConstant d t (class_of s) o k) (sym a.operator) mk) (subst (λ o. MayBeConstant d t (class_of s) o l) (sym a.operator) ml)
     asked_on_all near (Some p) h = pair_question (All (λ e. ArePastPairs s r e e.columns) r.sums) p h
 
     module _ (bases : List (List Solution)) (are : AreBases r.sums bases) where
@@ -125,14 +128,34 @@ module _ (d : Declarations) (t : NodeTable) (made : IsWellMade t) (s : State) (c
           let minimal = (basis.exact v.parts).0 (contains_map (λ (w : Solution). w.parts) (get_or bases i []) v c) in
           minimal.solves.sized ∙ sums.is_system.wide)
 
-      module _ (past : AreAllPast s r r.sums bases) where
+      module _ (past : AreAllPast r s r.sums bases) where
         -- classes that may be constants of the operator at this place are told apart, where a solution of its system has both
-        module _ (e : Sums) (c : Contains r.sums e) (k l : ℕ) (mk : MayBeConstant d t (class_of s) e.operator k) (ml : MayBeConstant d t (class_of s) e.operator l) where
+        module _ (e : Sums) (c : Contains r.sums e) where
           at_place : slice_get r.sums c.0 ≡ Some e
           at_place = slice_get-get_or r.sums c.0 e c.1 ∙ ap Some c.2
 
           sums_of : AreSums d t (class_of s) e
           sums_of = All-contains (AreSums d t (class_of s)) r.sums e reading.sums c
+
+          -- the class of a column is a node
+          node_at : (j : ℕ) → j < length e.columns → get_or e.columns j 0 < length t.nodes
+          node_at j within = column_within d t made s closed e.operator (get_or e.columns j 0) ((sums_of.is_system.exact (get_or e.columns j 0)).0 (Contains-get_or e.columns j 0 within))
+
+          -- columns that are told apart have classes that are
+          told_of : (i j : ℕ) → i < length e.columns → j < length e.columns → AreToldIn r e s i j → AreTold d t s (get_or e.columns i 0) (get_or e.columns j 0)
+          told_of i j a b (inl heads) = inl (two_heads (get_or e.columns i 0) (get_or e.columns j 0) (node_at i a) (node_at j b) heads)
+          told_of i j a b (inr closed_pair) = inr closed_pair
+
+          -- the class of a column that has a single summand is one
+          single_of : (v : Solution) (i : ℕ) → i < length e.columns → IsSingleIn r e v i → IsSingle d t (class_of s) e.operator (get_or e.columns i 0)
+          single_of v i within h =
+              let g = h.head in
+              record {
+                used = marked_from d t made s closed r reading e c (get_or e.columns i 0) h.used;
+                head = g.0;
+                other = g.2;
+                solid = (reading.heads.exact (get_or e.columns i 0) g.0 (node_at i within)).0 g.1;
+              }
 
           -- the column of a class
           column_of : (k : ℕ) → MayBeConstant d t (class_of s) e.operator k → (j : ℕ) × (j < length e.columns) × (get_or e.columns j 0 ≡ k)
@@ -140,38 +163,63 @@ module _ (d : Declarations) (t : NodeTable) (made : IsWellMade t) (s : State) (c
               let c = (sums_of.is_system.exact k).1 m.used.column in
               (c.0, c.1, get_or_default e.columns c.0 0 k c.1 ∙ c.2)
 
-          -- the solution that has both, in the order of the operator's columns
-          have_both : AreTouched d t (class_of s) e.operator k l → HaveBoth (get_or bases c.0 []) (column_of k mk).0 (column_of l ml).0
-          have_both h =
-              let own = sums_of.is_system in
-              let v = carry h.columns e.columns h.solution in
-              let minimal = minimal_carried t (class_of s) e.operator h.columns e.columns h.system e.system h.is own h.solution h.minimal in
-              let m = map_contains (λ (w : Solution). w.parts) (get_or bases c.0 []) v (((are.each c.0 e at_place).exact v).1 minimal) in
-              let part = λ (k : ℕ) (j : ℕ) (below : j < length e.columns) (is : get_or e.columns j 0 ≡ k).
-              ap (λ x. get_or x j 0) m.1.1 ∙ sym (component_at e.columns v own.distinct j below) ∙ ap (component e.columns v) is ∙ carried t (class_of s) e.operator h.columns e.columns h.system e.system h.is own h.solution k in
-              let i = column_of k mk in
-              let j = column_of l ml in
-              let a = part k i.0 i.1 i.2 in
-              let b = part l j.0 j.1 j.2 in
-              let left = h.left in
-              let right = h.right in
-              (m.0, m.1.0, (omega (arith, a, left), omega (arith, b, right)))
+          module _ (k l : ℕ) (mk : MayBeConstant d t (class_of s) e.operator k) (ml : MayBeConstant d t (class_of s) e.operator l) (h : AreTouched d t (class_of s) e.operator k l) (live : IsLive d t s e.operator h.columns h.solution) where
+            carried_solution : List ℕ
+            carried_solution = carry h.columns e.columns h.solution
 
-          apart_where_touched : AreTouched d t (class_of s) e.operator k l → HaveTwoHeads d t (class_of s) k l ⊎ (IsOpen s k l → ⊥)
-          apart_where_touched h =
-              let i = column_of k mk in
-              let j = column_of l ml in
-              let at = past c.0 e at_place i.0 i.1 (subst (CanBeConstant r e) (sym i.2) (can_be e c k mk)) j.0 j.1 (subst (CanBeConstant r e) (sym j.2) (can_be e c l ml)) (have_both h) in
-              let told : HaveHeads r k l ⊎ (IsOpen s k l → ⊥) = subst₂ (λ a b. HaveHeads r a b ⊎ (IsOpen s a b → ⊥)) i.2 j.2 at in
-              elim told [
-                | inl heads ↦ inl (two_heads k l (column_within d t made s closed e.operator k mk.used.column) (column_within d t made s closed e.operator l ml.used.column) heads)
-                | inr closed_pair ↦ inr closed_pair
-              ]
+            -- the solution, in the order of the operator's columns
+            own_solution : (w : Solution) × (Contains (get_or bases c.0 []) w × (w.parts ≡ carried_solution))
+            own_solution =
+                let minimal = minimal_carried t (class_of s) e.operator h.columns e.columns h.system e.system h.is sums_of.is_system h.solution h.minimal in
+                map_contains (λ (w : Solution). w.parts) (get_or bases c.0 []) carried_solution (((are.each c.0 e at_place).exact carried_solution).1 minimal)
+
+            own : Solution
+            own = own_solution.0
+
+            part : (j : ℕ) → j < length e.columns → get_or own.parts j 0 ≡ component h.columns h.solution (get_or e.columns j 0)
+            part j below =
+                ap (λ x. get_or x j 0) own_solution.1.1 ∙ sym (component_at e.columns carried_solution sums_of.is_system.distinct j below)
+                ∙ carried t (class_of s) e.operator h.columns e.columns h.system e.system h.is sums_of.is_system h.solution (get_or e.columns j 0)
+
+            not_dead : IsDead r e s own → ⊥
+            not_dead x =
+                let i = x.column in
+                let j = x.dead.other in
+                let before = x.dead.before in
+                let i_within = x.within in
+                let j_within : j < length e.columns = omega (arith, before, i_within) in
+                let left = x.dead.left.some in
+                let right = x.dead.right.some in
+                let a = part i i_within in
+                let b = part j j_within in
+                live (get_or e.columns i 0) (get_or e.columns j 0)
+                (λ same. sums_of.is_system.distinct j i 0 before i_within (sym same))
+                (single_of own i i_within x.dead.left) (single_of own j j_within x.dead.right)
+                (omega (arith, a, left)) (omega (arith, b, right))
+                (told_of i j i_within j_within x.dead.told)
+
+            apart_where_touched : AreTold d t s k l
+            apart_where_touched =
+                let i = column_of k mk in
+                let j = column_of l ml in
+                let a = part i.0 i.1 in
+                let b = part j.0 j.1 in
+                let at_i = ap (component h.columns h.solution) i.2 in
+                let at_j = ap (component h.columns h.solution) j.2 in
+                let p = h.left in
+                let q = h.right in
+                elim (All-contains (IsPastSolution r e s) (get_or bases c.0 []) own (past c.0 e at_place) own_solution.1.0) [
+                  | inl x ↦ absurd (not_dead x)
+                  | inr at ↦ subst₂ (AreTold d t s) i.2 j.2 (told_of i.0 j.0 i.1 j.1 (at i.0 i.1 (omega (arith, a, at_i, p), subst (CanBeConstant r e) (sym i.2) (can_be e c k mk)) j.0 j.1 (omega (arith, b, at_j, q), subst (CanBeConstant r e) (sym j.2) (can_be e c l ml))))
+                ]
 
       -- the answer where pairs are asked that a solution has both of
-      pub asked_on_touched : IsNearLeaf d t s → (o : Option (ℕ × ℕ)) → IsOpenPairOr s (AreAllPast s r r.sums bases) o → IsQuestion d t s o
-      asked_on_touched near None past = leaf_is near (λ f k l mk ml touched.
-          let a = entry_of d t made s closed r reading f k mk.used in
-          apart_where_touched past a.entry a.listed k l (subst (λ o. MayBeConstant d t (class_of s) o k) (sym a.operator) mk) (subst (λ o. MayBeConstant d t (class_of s) o l) (sym a.operator) ml)
-          (subst (λ o. AreTouched d t (class_of s) o k l) (sym a.operator) touched))
-      asked_on_touched near (Some p) h = pair_question (AreAllPast s r r.sums bases) p h
+      pub asked_on_touched : IsNearLeaf d t s → (o : Option (ℕ × ℕ)) → IsOpenPairOr s (AreAllPast r s r.sums bases) o → IsQuestion d t s o
+      asked_on_touched near None past = leaf_is near touched
+        where
+          touched : (f : OpId) (k l : ℕ) → MayBeConstant d t (class_of s) f k → MayBeConstant d t (class_of s) f l → (both : AreTouched d t (class_of s) f k l) → IsLive d t s f both.columns both.solution → AreTold d t s k l
+          touched f k l mk ml both live =
+              let a = entry_of d t made s closed r reading f k mk.used in
+              subst (λ o. (mk : MayBeConstant d t (class_of s) o k) (ml : MayBeConstant d t (class_of s) o l) (both : AreTouched d t (class_of s) o k l) → IsLive d t s o both.columns both.solution → AreTold d t s k l) a.operator
+              (apart_where_touched past a.entry a.listed k l) mk ml both live
+      asked_on_touched near (Some p) h = pair_question (AreAllPast r s r.sums bases) p h

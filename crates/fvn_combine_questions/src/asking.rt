@@ -1,7 +1,7 @@
 //! The next question of a state that is no leaf yet.
 ghost use Rattle.fvn_combine_nodes.specs.States.{IsClosed, class_of};
 ghost use Rattle.fvn_combine_leaves.specs.Bases.{AreBases};
-ghost use Rattle.fvn_combine_leaves.specs.Leaves.{IsNearLeaf, IsFirstQuestion, IsQuestion};
+ghost use Rattle.fvn_combine_leaves.specs.Leaves.{IsNearLeaf, IsFirstQuestion, IsQuestion, IsFullQuestion};
 ghost use Rattle.fvn_combine_leaves.specs.Readings.{IsReading};
 
 use crate::constants::constants_question;
@@ -46,7 +46,7 @@ pub fn question_on_all(
 ) -> Option<(usize, usize)>
     requires near { IsNearLeaf sig.now table.now state.now }
     requires reading { IsReading sig.now table.now (class_of state.now) reading.now }
-    ensures { IsQuestion sig.now table.now state.now result }
+    ensures { IsFullQuestion sig.now table.now state.now result }
 {
     table.recall_well_made();
     let _sig = sig;
@@ -54,7 +54,7 @@ pub fn question_on_all(
 }
 
 /// A question on two classes that may be constants of one operator, and that one of its minimal
-/// solutions has both of; none only where the state is a leaf.
+/// solutions has both of that may stand for a summand; none only where the state is a leaf.
 pub fn question_on_touched(
     sig: &Signature,
     table: &Table,

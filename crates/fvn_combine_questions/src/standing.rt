@@ -1,6 +1,7 @@
 //! Which classes may be constants of an operator, and which have different heads.
 ghost use Rattle.std.specs.Prelude.{◌↔◌, ◌<◌, length, IsTrue};
 ghost use Rattle.fvn_combine_leaves.specs.Users.{IsWholeSums, IsWhole, CanBeConstant, HaveHeads};
+ghost use Rattle.fvn_combine_questions.specs.inner.Touched.{HasOtherHead};
 
 use fvn_combine_leaves::{Reading, Sums, has_two_users, is_user};
 
@@ -17,6 +18,19 @@ pub(crate) fn may_be_constant(reading: &Reading, n: usize, sums: &Sums, k: usize
     match reading.heads.as_slice()[k] {
         None => has_two_users(reading.sums.as_slice(), n, k),
         Some(g) => g != sums.operator,
+    }
+}
+
+// Whether another operator than that of the sums heads the class.
+pub(crate) fn has_other_head(reading: &Reading, n: usize, sums: &Sums, k: usize) -> bool
+    requires whole { IsWhole n reading.now }
+    requires within { k < n }
+    ensures { IsTrue result → HasOtherHead reading.now sums.now k }
+{
+    let _nodes = n;
+    match reading.heads.as_slice()[k] {
+        None => false,
+        Some(own) => own != sums.operator,
     }
 }
 

@@ -1,91 +1,193 @@
 //! Questions whether two classes are one that may be constants of one operator, and that a minimal
 //! solution has both of.
-ghost use Rattle.std.specs.Prelude.{◌≡◌, ◌↔◌, ◌<◌, length, IsTrue};
-ghost use Rattle.fvn_combine_nodes.specs.States.{IsNaming};
+//!
+//! A solution that is taken stands for one summand. Where two classes that it has are single summands and are known to
+//! differ, it is never taken, so that nothing is asked of it.
+ghost use Rattle.std.specs.Prelude.{◌≡◌, ◌↔◌, ◌<◌, length, slice_index, IsTrue, IsFalse};
+ghost use Rattle.fvn_combine_nodes.specs.States.{IsNaming, IsOpen};
 ghost use Rattle.fvn_combine_questions.specs.inner.Past.{IsOpenPairOr};
 ghost use Rattle.fvn_combine_leaves.specs.Users.{IsWholeSums, IsWhole};
 ghost use Rattle.fvn_combine_questions.specs.inner.Touched.{
   AreWide,
   AreAllWide,
-  HasBoth,
-  HaveBoth,
+  StandsIn,
+  IsSingleIn,
+  AreToldIn,
+  IsDeadAt,
+  IsDead,
   ArePastColumns,
+  IsPastSolution,
   ArePastTouched,
   AreAllPast,
 };
 
-use crate::standing::{have_two_heads, may_be_constant};
+use crate::standing::{has_other_head, have_two_heads, may_be_constant};
 use fvn_base::Seq;
-use fvn_combine_leaves::{Reading, Sums};
+use fvn_combine_leaves::{Reading, Sums, is_user};
 use fvn_combine_nodes::State;
 use fvn_lindio::Solution;
 
-// Whether the solution is above zero in both columns.
-fn has_both(v: &Solution, i: usize, j: usize) -> bool
-    requires left { i < length v.now.parts }
-    requires right { j < length v.now.parts }
-    ensures { IsTrue result ↔ HasBoth v.now i j }
+// Whether the solution is above zero in column i.
+fn has_column(v: &Solution, i: usize) -> bool
+    requires { i < length v.now.parts }
+    ensures { IsTrue result ↔ (0 < slice_index v.now.parts i) }
 {
-    let parts = v.parts.as_slice();
-    if parts[i] == 0 {
-        return false;
-    }
-    parts[j] > 0
+    v.parts.as_slice()[i] > 0
 }
 
-// Whether some solution is above zero in both columns.
-fn have_both(basis: &[Solution], n: usize, i: usize, j: usize) -> bool
-    requires wide { AreWide n basis.now }
-    requires left { i < n }
-    requires right { j < n }
-    ensures { IsTrue result ↔ HaveBoth basis.now i j }
+// Whether the solution has column i, whose class may be a constant of the operator.
+fn stands(reading: &Reading, n: usize, sums: &Sums, v: &Solution, i: usize) -> bool
+    requires whole { IsWhole n reading.now }
+    requires sums { IsWholeSums n sums.now }
+    requires wide { length v.now.parts ≡ length sums.now.columns }
+    requires within { i < length sums.now.columns }
+    ensures { IsTrue result ↔ StandsIn reading.now sums.now v.now i }
 {
-    let _columns = n;
-    for v in basis {
-        if has_both(v, i, j) {
+    let columns = sums.columns.as_slice();
+    if !has_column(v, i) {
+        return false;
+    }
+    may_be_constant(reading, n, sums, columns[i])
+}
+
+// Whether the solution has column i, whose class is a single summand.
+fn is_single(reading: &Reading, n: usize, sums: &Sums, v: &Solution, i: usize) -> bool
+    requires whole { IsWhole n reading.now }
+    requires sums { IsWholeSums n sums.now }
+    requires wide { length v.now.parts ≡ length sums.now.columns }
+    requires within { i < length sums.now.columns }
+    ensures { IsTrue result → IsSingleIn reading.now sums.now v.now i }
+{
+    let columns = sums.columns.as_slice();
+    if !has_column(v, i) {
+        return false;
+    }
+    if !is_user(sums, columns[i]) {
+        return false;
+    }
+    has_other_head(reading, n, sums, columns[i])
+}
+
+// Whether heads tell the classes of columns i and j apart, or it is not open whether they are one.
+fn are_told(state: &State, reading: &Reading, sums: &Sums, i: usize, j: usize) -> bool
+    requires naming { IsNaming state.now }
+    requires reading { IsWhole (length state.now.names) reading.now }
+    requires sums { IsWholeSums (length state.now.names) sums.now }
+    requires left { i < length sums.now.columns }
+    requires right { j < length sums.now.columns }
+    ensures told { IsTrue result → AreToldIn reading.now sums.now state.now i j }
+    ensures open { IsFalse result
+        → IsOpen state.now (slice_index sums.now.columns i) (slice_index sums.now.columns j) }
+{
+    let columns = sums.columns.as_slice();
+    if have_two_heads(reading, columns[i], columns[j]) {
+        return true;
+    }
+    !state.is_open(columns[i], columns[j])
+}
+
+// Whether the solution has column i and one before it, whose classes are single summands and told apart.
+fn is_dead_at(state: &State, reading: &Reading, sums: &Sums, v: &Solution, i: usize) -> bool
+    requires naming { IsNaming state.now }
+    requires reading { IsWhole (length state.now.names) reading.now }
+    requires sums { IsWholeSums (length state.now.names) sums.now }
+    requires wide { length v.now.parts ≡ length sums.now.columns }
+    requires within { i < length sums.now.columns }
+    ensures { IsTrue result → IsDeadAt reading.now sums.now state.now v.now i }
+{
+    let n = state.names.len();
+    if !is_single(reading, n, sums, v, i) {
+        return false;
+    }
+    for j in 0..i {
+        if !is_single(reading, n, sums, v, j) {
+            continue;
+        }
+        if are_told(state, reading, sums, i, j) {
             return true;
         }
     }
     false
 }
 
-// A question whether the class of column i is another one that may be a constant of the operator.
+// Whether the solution stands for no summand, by what is known of single summands.
+fn is_dead(state: &State, reading: &Reading, sums: &Sums, v: &Solution) -> bool
+    requires naming { IsNaming state.now }
+    requires reading { IsWhole (length state.now.names) reading.now }
+    requires sums { IsWholeSums (length state.now.names) sums.now }
+    requires wide { length v.now.parts ≡ length sums.now.columns }
+    ensures { IsTrue result → IsDead reading.now sums.now state.now v.now }
+{
+    for i in 0..sums.columns.len() {
+        if is_dead_at(state, reading, sums, v, i) {
+            return true;
+        }
+    }
+    false
+}
+
+// A question whether the class of column i is another one that the solution has and that may be a constant.
 fn open_column(
     state: &State,
     reading: &Reading,
     sums: &Sums,
-    basis: &[Solution],
+    v: &Solution,
     i: usize,
 ) -> Option<(usize, usize)>
     requires naming { IsNaming state.now }
     requires reading { IsWhole (length state.now.names) reading.now }
     requires sums { IsWholeSums (length state.now.names) sums.now }
-    requires wide { AreWide (length sums.now.columns) basis.now }
+    requires wide { length v.now.parts ≡ length sums.now.columns }
     requires within { i < length sums.now.columns }
     ensures { IsOpenPairOr state.now
-        (ArePastColumns state.now reading.now sums.now basis.now i) result }
+        (ArePastColumns reading.now sums.now state.now v.now i) result }
 {
     let n = state.names.len();
     let columns = sums.columns.as_slice();
     for j in 0..columns.len() {
-        if !may_be_constant(reading, n, sums, columns[j]) {
+        if !stands(reading, n, sums, v, j) {
             continue;
         }
-        if have_two_heads(reading, columns[i], columns[j]) {
+        if are_told(state, reading, sums, i, j) {
             continue;
         }
-        if !have_both(basis, columns.len(), i, j) {
+        return Some((columns[i], columns[j]));
+    }
+    None
+}
+
+// A question whether two classes are one that the solution has and that may be constants of the operator.
+fn open_solution(
+    state: &State,
+    reading: &Reading,
+    sums: &Sums,
+    v: &Solution,
+) -> Option<(usize, usize)>
+    requires naming { IsNaming state.now }
+    requires reading { IsWhole (length state.now.names) reading.now }
+    requires sums { IsWholeSums (length state.now.names) sums.now }
+    requires wide { length v.now.parts ≡ length sums.now.columns }
+    ensures { IsOpenPairOr state.now
+        (IsPastSolution reading.now sums.now state.now v.now) result }
+{
+    if is_dead(state, reading, sums, v) {
+        return None;
+    }
+    let n = state.names.len();
+    for i in 0..sums.columns.len() {
+        if !stands(reading, n, sums, v, i) {
             continue;
         }
-        if state.is_open(columns[i], columns[j]) {
-            return Some((columns[i], columns[j]));
+        match open_column(state, reading, sums, v, i) {
+            None => {}
+            Some(pair) => return Some(pair),
         }
     }
     None
 }
 
-// A question whether two classes are one that may be constants of the operator.
-fn open_columns(
+// The same of all solutions of the operator.
+fn open_solutions(
     state: &State,
     reading: &Reading,
     sums: &Sums,
@@ -96,15 +198,10 @@ fn open_columns(
     requires sums { IsWholeSums (length state.now.names) sums.now }
     requires wide { AreWide (length sums.now.columns) basis.now }
     ensures { IsOpenPairOr state.now
-        (ArePastTouched state.now reading.now sums.now basis.now) result }
+        (ArePastTouched reading.now sums.now state.now basis.now) result }
 {
-    let n = state.names.len();
-    let columns = sums.columns.as_slice();
-    for i in 0..columns.len() {
-        if !may_be_constant(reading, n, sums, columns[i]) {
-            continue;
-        }
-        match open_column(state, reading, sums, basis, i) {
+    for v in basis {
+        match open_solution(state, reading, sums, v) {
             None => {}
             Some(pair) => return Some(pair),
         }
@@ -124,11 +221,11 @@ pub(crate) fn open_touched(
     requires as_many { length bases.now ≡ length reading.now.sums }
     requires wide { AreAllWide reading.now.sums bases.now }
     ensures { IsOpenPairOr state.now
-        (AreAllPast state.now reading.now reading.now.sums bases.now) result }
+        (AreAllPast reading.now state.now reading.now.sums bases.now) result }
 {
     let sums = reading.sums.as_slice();
     for i in 0..sums.len() {
-        match open_columns(state, reading, &sums[i], bases[i].as_slice()) {
+        match open_solutions(state, reading, &sums[i], bases[i].as_slice()) {
             None => {}
             Some(pair) => return Some(pair),
         }

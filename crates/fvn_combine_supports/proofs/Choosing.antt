@@ -12,7 +12,7 @@ use Rattle.fvn_forms.specs.InOrder.{one_if, count}
 use Rattle.fvn_forms.proofs.Order.{same_flat_is, same_flat_itself, flat_equal_decided}
 use Rattle.fvn_forms.proofs.InOrder.{count_itself}
 use Rattle.fvn_acunify.specs.ValidChoice.{chosen, column_sum, touched, IsValid}
-use Rattle.fvn_combine_supports.specs.Pieces.{has_some, number_of, taken, AreMadeUp, Meets, StandAlone}
+use Rattle.fvn_combine_supports.specs.Pieces.{has_some, number_of, taken, AreMadeUp, AreAlike, Meets, StandAlone}
 use Rattle.fvn_combine_supports.proofs.Combining.{Sized, weight, get_or-combination}
 use Rattle.fvn_combine_supports.proofs.Picking.{within, chosen_is}
 
@@ -192,16 +192,18 @@ module _ (columns : ℕ) (basis : List (List ℕ)) (sized : Sized columns basis)
   touched_once : (v : List ℕ) → Contains (taken pieces basis) v → touched constants v ≤ 1
   touched_once v h = one_passes (λ c. nat_lt 0 (get_or v c 0)) constants meets.distinct apart
     where
-      apart : (c e : ℕ) → Contains constants c → Contains constants e → c ≢ e → nat_lt 0 (get_or v c 0) ≡ true → nat_lt 0 (get_or v e 0) ≡ true → ⊥
-      apart c e m n o p q =
+      alike : AreAlike constants v alone
+      alike c e m n pc pe =
           let r = taken_from pieces basis v h in
-          let pc = ltb-true 0 (get_or v c 0) p in
-          let pe = ltb-true 0 (get_or v e 0) q in
           let a = (single_of r.0 c r.1 m r.3 (subst (λ u. 0 < get_or u c 0) (sym r.2) pc)).1 in
           let b = (single_of r.0 e r.1 n r.3 (subst (λ u. 0 < get_or u e 0) (sym r.2) pe)).1 in
           let both : alone c ∷ [] ≡ alone e ∷ [] = sym a ∙ b in
-          let same : alone c ≡ alone e = cc in
-          meets.different c e m n o v (subst (Contains basis) r.2 (Contains-get_or basis r.0 [] r.1)) pc pe same
+          cc
+
+      apart : (c e : ℕ) → Contains constants c → Contains constants e → c ≢ e → nat_lt 0 (get_or v c 0) ≡ true → nat_lt 0 (get_or v e 0) ≡ true → ⊥
+      apart c e m n o p q =
+          let r = taken_from pieces basis v h in
+          meets.different c e m n o v (subst (Contains basis) r.2 (Contains-get_or basis r.0 [] r.1)) (ltb-true 0 (get_or v c 0) p) (ltb-true 0 (get_or v e 0) q) alike
 
   pub chooses : IsValid constants may_be_zero basis (number_of pieces) × StandAlone constants basis pieces alone
   chooses =

@@ -31,13 +31,17 @@ pub record AreMadeUp (columns : ℕ) (basis : List (List ℕ)) (counted : FlatTe
   pub as_many : length pieces ≡ length basis
   pub made_up : (q : FlatTerm) → combination columns (map (count q) pieces) basis ≡ counted q
 
+-- the flat forms of all constant columns that the vector has are one
+abbrev pub AreAlike : (constants vector : List ℕ) → (ℕ → FlatTerm) → Type 0
+AreAlike constants v alone = (c e : ℕ) → Contains constants c → Contains constants e → 0 < slice_index v c → 0 < slice_index v e → alone c ≡ alone e
+
 -- what is counted meets what is asked of a choice
 pub record Meets (constants : List ℕ) (may_be_zero : List Bool) (basis : List (List ℕ)) (counted : FlatTerm → List ℕ) (alone : ℕ → FlatTerm) : Type 0 where
   pub distinct : AllPairs ◌≢◌ constants
   -- in a constant column one flat form is counted, once
   pub once : (c : ℕ) → Contains constants c → (q : FlatTerm) → slice_index (counted q) c ≡ one_if (same_flat q (alone c))
-  -- those of two constant columns differ where a vector has both
-  pub different : (c e : ℕ) → Contains constants c → Contains constants e → c ≢ e → (v : List ℕ) → Contains basis v → 0 < slice_index v c → 0 < slice_index v e → alone c ≢ alone e
+  -- those of all constant columns that a vector has are one only where it has one such column
+  pub different : (c e : ℕ) → Contains constants c → Contains constants e → c ≢ e → (v : List ℕ) → Contains basis v → 0 < slice_index v c → 0 < slice_index v e → AreAlike constants v alone → ⊥
   -- in a column that may not be zero something is counted
   pub filled : (j : ℕ) → slice_index_or may_be_zero j true ≡ false → (q : FlatTerm) × (0 < slice_index (counted q) j)
 

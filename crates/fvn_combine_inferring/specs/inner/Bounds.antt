@@ -1,5 +1,6 @@
 -- Heads of values, those that make a value a single summand, and marks of classes.
-use Rattle.std.specs.Prelude.{◌≡◌, ◌≢◌, ◌⊎◌, ℕ, ◌≤◌, Bool, true, false, List, length, slice_set, slice_index_or, Option, Some, None, All}
+use Rattle.std.specs.Prelude.{◌≡◌, ◌≢◌, ◌⊎◌, ℕ, ◌≤◌, Bool, ◌&&◌, ◌||◌, true, false, nat_eq, List, length, slice_set, slice_index, slice_index_or, Option, Some, None, All}
+use Rattle.std.specs.List.{list_any}
 use Rattle.fvn_terms.specs.declared.plain.OpId.{OpId}
 use Rattle.fvn_terms.specs.declared.declarations.Declarations.{Declarations}
 use Rattle.fvn_terms.specs.Signature.{axioms}
@@ -10,6 +11,10 @@ use Rattle.fvn_combine_nodes.specs.declared.state.State.{State}
 use Rattle.fvn_combine_inferring.specs.Sorted.{GoWithSorts}
 use Rattle.fvn_combine_inferring.specs.Inferred.{HaveTwoValues}
 use Rattle.fvn_combine_inferring.specs.Rows.{many, HasSummand}
+
+-- one of the pairs has its nodes in classes a and b
+abbrev pub is_kept : (names : List ℕ) → ℕ → ℕ → List (ℕ × ℕ) → Bool
+is_kept names a b pairs = list_any (λ p. (nat_eq (slice_index names p.0) a && nat_eq (slice_index names p.1) b) || (nat_eq (slice_index names p.0) b && nat_eq (slice_index names p.1) a)) pairs
 
 module _ (d : Declarations) (f : OpId) where
   -- g is neither f nor its identity

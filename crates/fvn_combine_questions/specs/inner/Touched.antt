@@ -1,11 +1,12 @@
--- Pairs of columns that a minimal solution has both of, and questions on their classes that are past.
-use Rattle.std.specs.Prelude.{◌≡◌, ◌⊎◌, ℕ, ◌<◌, List, [], length, slice_get, slice_index, slice_index_or, Some, All, Contains}
+-- Columns that a minimal solution has, solutions that stand for no summand, and questions on their classes that are past.
+use Rattle.std.specs.Prelude.{◌≡◌, ◌≢◌, ◌⊎◌, ℕ, ◌<◌, List, [], length, slice_get, slice_index, slice_index_or, Some, All}
+use Rattle.fvn_terms.specs.declared.plain.OpId.{OpId}
 use Rattle.fvn_lindio.specs.declared.system.Solution.{Solution}
 use Rattle.fvn_combine_nodes.specs.States.{IsOpen}
 use Rattle.fvn_combine_nodes.specs.declared.state.State.{State}
 use Rattle.fvn_combine_leaves.specs.declared.reading.Sums.{Sums}
 use Rattle.fvn_combine_leaves.specs.declared.reading.Reading.{Reading}
-use Rattle.fvn_combine_leaves.specs.Users.{CanBeConstant, HaveHeads}
+use Rattle.fvn_combine_leaves.specs.Users.{IsMarked, head_of, CanBeConstant, HaveHeads}
 
 -- each solution has one part a column
 abbrev pub AreWide : ℕ → List Solution → Type 0
@@ -15,28 +16,52 @@ AreWide n basis = All (λ v. length v.parts ≡ n) basis
 abbrev pub AreAllWide : List Sums → List (List Solution) → Type 0
 AreAllWide sums bases = (i : ℕ) (e : Sums) → slice_get sums i ≡ Some e → AreWide (length e.columns) (slice_index_or bases i [])
 
--- the solution is above zero in both columns
-abbrev pub HasBoth : Solution → ℕ → ℕ → Type 0
-HasBoth v i j = (0 < slice_index v.parts i) × (0 < slice_index v.parts j)
+-- another operator than that of the sums is noted as the head of class k
+abbrev pub HasOtherHead : Reading → Sums → ℕ → Type 0
+HasOtherHead r e k = (g : OpId) × (head_of r k ≡ Some g) × (g ≢ e.operator)
 
--- one of the solutions is
-abbrev pub HaveBoth : List Solution → ℕ → ℕ → Type 0
-HaveBoth basis i j = (v : Solution) × Contains basis v × HasBoth v i j
+module _ (r : Reading) (e : Sums) where
+  -- the solution has column i, whose class may be a constant
+  abbrev pub StandsIn : Solution → ℕ → Type 0
+  StandsIn v i = (0 < slice_index v.parts i) × CanBeConstant r e (slice_index e.columns i)
 
-module _ (s : State) (r : Reading) where
-  module _ (e : Sums) (basis : List Solution) where
-    -- it is not open whether the class of column i is that of column j, where this may be a constant, a solution has both, and no heads tell them apart
-    abbrev pub IsPastColumn : ℕ → ℕ → Type 0
-    IsPastColumn i j = CanBeConstant r e (slice_index e.columns j) → HaveBoth basis i j → HaveHeads r (slice_index e.columns i) (slice_index e.columns j) ⊎ (IsOpen s (slice_index e.columns i) (slice_index e.columns j) → ⊥)
+  -- the solution has column i, whose class is used and has another head
+  pub record IsSingleIn (v : Solution) (i : ℕ) : Type 0 where
+    pub some : 0 < slice_index v.parts i
+    pub used : IsMarked e (slice_index e.columns i)
+    pub head : HasOtherHead r e (slice_index e.columns i)
 
-    -- so it is with all columns
-    abbrev pub ArePastColumns : ℕ → Type 0
-    ArePastColumns i = (j : ℕ) → j < length e.columns → IsPastColumn i j
+  module _ (s : State) where
+    -- heads tell the classes of the columns apart, or whether they are one is not open
+    abbrev pub AreToldIn : ℕ → ℕ → Type 0
+    AreToldIn i j = HaveHeads r (slice_index e.columns i) (slice_index e.columns j) ⊎ (IsOpen s (slice_index e.columns i) (slice_index e.columns j) → ⊥)
 
-    -- and of each column whose class may be a constant
-    abbrev pub ArePastTouched : Type 0
-    ArePastTouched = (i : ℕ) → i < length e.columns → CanBeConstant r e (slice_index e.columns i) → ArePastColumns i
+    -- the solution has column i and one before it, whose classes are single summands and told apart: it stands for no summand
+    pub record IsDeadAt (v : Solution) (i : ℕ) : Type 0 where
+      pub other : ℕ
+      pub before : other < i
+      pub left : IsSingleIn v i
+      pub right : IsSingleIn v other
+      pub told : AreToldIn i other
 
-  -- of each operator
-  abbrev pub AreAllPast : List Sums → List (List Solution) → Type 0
-  AreAllPast sums bases = (i : ℕ) (e : Sums) → slice_get sums i ≡ Some e → ArePastTouched e (slice_index_or bases i [])
+    -- so it is at some column
+    pub record IsDead (v : Solution) : Type 0 where
+      pub column : ℕ
+      pub within : column < length e.columns
+      pub dead : IsDeadAt v column
+
+    -- it is not open whether the class of column i is that of another column which the solution has and whose class may be a constant, where no heads tell them apart
+    abbrev pub ArePastColumns : Solution → ℕ → Type 0
+    ArePastColumns v i = (j : ℕ) → j < length e.columns → StandsIn v j → AreToldIn i j
+
+    -- so it is with all columns which the solution has, or it stands for no summand
+    abbrev pub IsPastSolution : Solution → Type 0
+    IsPastSolution v = IsDead v ⊎ ((i : ℕ) → i < length e.columns → StandsIn v i → ArePastColumns v i)
+
+    -- and with all solutions
+    abbrev pub ArePastTouched : List Solution → Type 0
+    ArePastTouched basis = All IsPastSolution basis
+
+-- of each operator
+abbrev pub AreAllPast : Reading → State → List Sums → List (List Solution) → Type 0
+AreAllPast r s sums bases = (i : ℕ) (e : Sums) → slice_get sums i ≡ Some e → ArePastTouched r e s (slice_index_or bases i [])

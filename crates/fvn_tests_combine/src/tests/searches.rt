@@ -2,67 +2,67 @@
 use super::unifiers::{BAGS, OPERATORS, WITH_ELEMENTS, assert_rows};
 use fvn_terms::NoMemory;
 
-// A problem; how many states the search for its unifiers on kinds looks at, and how many choices it tries, at most.
+// A problem; how many states the search for its unifiers on kinds asks, and how many choices it tries, at most.
 //
-// A state is looked at again with each fact that is found of it. A term is written with each operator after its
+// A state is asked when no further fact is found of it. A term is written with each operator after its
 // arguments. Families of problems come first, each with one size after another: sums with an identity below sums
 // without one, sums of these that can't be equal, bags of free terms, towers of both sums, and commutative terms below
 // a sum. Then problems that one rule decides: what stands on both sides is taken out, and one class is left on each, or
 // on one side alone; there are more summands than the other side can have; a summand is only one of the other side's, or
 // none; a class is inside itself; a class has a summand, and is no identity.
-const SEARCHED: &str = "search A0 A1 l f k = o f l f k => few | 6 4
-search A0 A1 l f k A2 l f k = o f l f k f l f k => few | 14 4
-search A0 A1 l f k A2 l f k A3 l f k = o f l f k f l f k f l f k => few | 24 4
-search A0 o k A1 l = f f k A1 h l => few | 3 0
-search A0 o k A1 l o k A2 l = f f k A1 h l f k A2 h l => few | 3 0
-search A0 o k A1 l o k A2 l o k A3 l = f f k A1 h l f k A2 h l f k A3 h l => few | 3 0
-search A0 A1 i A2 A3 i k = f A4 h i f A5 h i k => few | 7 2
-search A0 A1 i A2 A3 i A4 A5 i k k = f A6 h i f A7 h i f A8 h i k k => few | 23 6
-search A0 h A1 k o h l = A5 h A6 h k A8 h l => few | 9 2
-search A0 h A1 k o h l A2 k o h l = A5 h A6 h k A8 h l A7 h k A9 h l => few | 20 2
-search A1 f j h A2 f j h k A0 k = f f j h f o j h k A9 k => few | 16 12
-search A1 f j h A2 f j h k A3 f j h k A0 k = f f j h f o j h k f f j h k A9 k => few | 78 64
-search A0 A1 j A2 A3 j i A4 A5 j i = f o j f o j i f o j i => few | 16 8
-search A0 A0 k = A1 A1 k => few | 2 1
-search A0 f k = A1 f k => few | 2 1
-search f h A0 l = f h A1 l => few | 2 1
-search A0 f k A1 h k = A1 h f k A2 k => few | 2 1
+const SEARCHED: &str = "search A0 A1 l f k = o f l f k => few | 1 4
+search A0 A1 l f k A2 l f k = o f l f k f l f k => few | 3 4
+search A0 A1 l f k A2 l f k A3 l f k = o f l f k f l f k f l f k => few | 6 4
+search A0 o k A1 l = f f k A1 h l => few | 1 0
+search A0 o k A1 l o k A2 l = f f k A1 h l f k A2 h l => few | 1 0
+search A0 o k A1 l o k A2 l o k A3 l = f f k A1 h l f k A2 h l f k A3 h l => few | 1 0
+search A0 A1 i A2 A3 i k = f A4 h i f A5 h i k => few | 3 2
+search A0 A1 i A2 A3 i A4 A5 i k k = f A6 h i f A7 h i f A8 h i k k => few | 11 6
+search A0 h A1 k o h l = A5 h A6 h k A8 h l => few | 3 2
+search A0 h A1 k o h l A2 k o h l = A5 h A6 h k A8 h l A7 h k A9 h l => few | 3 2
+search A1 f j h A2 f j h k A0 k = f f j h f o j h k A9 k => few | 13 12
+search A1 f j h A2 f j h k A3 f j h k A0 k = f f j h f o j h k f f j h k A9 k => few | 67 63
+search A0 A1 j A2 A3 j i A4 A5 j i = f o j f o j i f o j i => few | 15 8
+search A0 A0 k = A1 A1 k => few | 1 1
+search A0 f k = A1 f k => few | 1 1
+search f h A0 l = f h A1 l => few | 1 1
+search A0 f k A1 h k = A1 h f k A2 k => few | 1 1
 search A0 f l A1 l = f A1 l => few | 1 1
 search A0 f k A1 k = f A1 k => few | 1 0
-search A0 f k = A0 o k => few | 1 0
-search A0 A1 l = g => few | 3 1
+search A0 f k = A0 o k => few | 0 0
+search A0 A1 l = g => few | 1 1
 search A0 A1 k A2 k = f o k => few | 1 0
 search A0 h A1 h k A2 k = f h o k => few | 1 0
-search A0 h A1 k = f h o k => few | 3 1
-search A0 A1 i A2 h k = f g i o h k => few | 3 1
+search A0 h A1 k = f h o k => few | 1 1
+search A0 A1 i A2 h k = f g i o h k => few | 1 1
 search A0 A1 i A2 h k = f g i o k => few | 1 0
-search A0 f h l = o h => few | 1 0
-search o f k A0 l = f g k A1 h l => few | 3 0
-search A0 A1 k A2 h l = f h A3 A4 k l => few | 3 7
+search A0 f h l = o h => few | 0 0
+search o f k A0 l = f g k A1 h l => few | 0 0
+search A0 A1 k A2 h l = f h A3 A4 k l => few | 1 7
 search A0 = A0 h A1 l => few | 1 1
 search A0 = A1 f n; A1 = A0 f k => few | 1 0
-search A0 = A1 o h l; A1 = A0 f m => few | 2 0
+search A0 = A1 o h l; A1 = A0 f m => few | 1 0
 search A0 = A1 o h l; A1 = A2 f m; A2 = A0 f l => few | 1 0
-search A0 A1 l A2 m = A0 A2 l A1 m => few | 41 12
-search A0 A1 l A2 m A0 l = A2 A1 l A0 m A1 l => few | 109 8
+search A0 A1 l A2 m = A0 A2 l A1 m => few | 27 12
+search A0 A1 l A2 m A0 l = A2 A1 l A0 m A1 l => few | 67 8
 search A0 A1 k h A2 l = f h h A3 l => few | 2 1
-search A0 A1 k = A2 f k; A0 A3 l = A4 f l => few | 8 13
-search A0 A1 l A2 m A3 l = f => few | 24 10";
+search A0 A1 k = A2 f k; A0 A3 l = A4 f l => few | 5 13
+search A0 A1 l A2 m A3 l = f => few | 13 10";
 
 // The same over sums that are not neutral, with elements: an element is one summand at most. Six elements are split in
 // two in 64 ways, of which each is a choice, and nothing is asked: a row with no room shows both numbers as they are.
 const SEARCHED_WITH_ELEMENTS: &str = "search A0 A1 l = B2 B3 l B4 l => few | 1 8
 search A0 A1 l = B2 B3 l B4 l B5 l B6 l B7 l => 1 64 | 0 0
 search B0 A1 l = B2 A3 l => few | 1 4
-search B0 B1 l = B2 B3 l => few | 7 2
-search B0 f l = B1 A2 l => few | 7 2
-search B0 f k = B1 A2 k => few | 7 2";
+search B0 B1 l = B2 B3 l => few | 3 2
+search B0 f l = B1 A2 l => few | 3 2
+search B0 f k = B1 A2 k => few | 3 2";
 
 // The same over bags: which element is which is asked before solutions, so that of thirteen elements only one is it.
-const SEARCHED_OF_BAGS: &str = "search A0 B1 t = g => few | 3 1
-search A0 B1 t = g h t => few | 7 2
-search A0 B1 t = g h i j k l m n o p q r s t t t t t t t t t t t t => few | 29 13
-search A0 A1 B2 t t = g h i t t => few | 23 6
+const SEARCHED_OF_BAGS: &str = "search A0 B1 t = g => few | 1 1
+search A0 B1 t = g h t => few | 3 2
+search A0 B1 t = g h i j k l m n o p q r s t t t t t t t t t t t t => few | 25 13
+search A0 A1 B2 t t = g h i t t => few | 11 6
 search A0 A1 B2 t t = A3 A4 B5 t t => few | 1 14
 search A0 A1 t = g => few | 1 0
 search A0 A1 t = B2 => few | 1 1
@@ -75,9 +75,9 @@ const RINGS: &str =
 
 // The same over these, where nearly every class is added by both.
 const SEARCHED_OF_RINGS: &str =
-    "search A0 A1 h A2 A3 h i A0 i = A0 A2 h A1 A3 h i A1 i => few | 1120 80
-search A0 A1 i A2 h A3 i = A2 A3 i A0 h A1 i => few | 580 56
-search A0 A1 A2 i h A1 A0 A3 i h i = A2 A3 i => few | 560 130";
+    "search A0 A1 h A2 A3 h i A0 i = A0 A2 h A1 A3 h i A1 i => few | 805 76
+search A0 A1 i A2 h A3 i = A2 A3 i A0 h A1 i => few | 340 52
+search A0 A1 A2 i h A1 A0 A3 i h i = A2 A3 i => few | 367 122";
 
 #[test]
 fn searches_stay_short(rt: HostRuntime) -> Result<(), NoMemory> {

@@ -32,7 +32,7 @@ fn run_through(combiner: &mut Combiner) -> Result<(), NoMemory> {
     Ok(())
 }
 
-/// How many states are looked at, and how many choices are tried.
+/// How many states are asked, and how many choices are tried.
 fn counted(combiner: &mut Combiner) -> Result<(u64, u64), NoMemory> {
     run_through(combiner)?;
     Ok((combiner.states_asked(), combiner.choices_tried()))
@@ -72,7 +72,7 @@ fn shown_of(alloc: Global, sig: &Signature, problem: &Pairs, most: &str) -> Resu
     shown_counts(alloc, counts, most)
 }
 
-/// That a search looks at so many states and tries so many choices at most, or how many it does.
+/// That a search asks so many states and tries so many choices at most, or how many it does.
 pub fn shown_searched(
     alloc: Global,
     sig: &Signature,

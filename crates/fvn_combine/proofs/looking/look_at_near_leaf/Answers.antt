@@ -1,8 +1,7 @@
 -- A state whose classes have two kinds admits no unifier.
-use Rattle.std.proofs.Common.{sym, ◌∙◌, subst}
+use Rattle.std.proofs.Common.{sym, ◌∙◌}
 use Rattle.std.proofs.lemmas.Bool.{false≢true}
 use Rattle.fvn_flat.specs.Solving.{problem_of}
-use Rattle.fvn_combine_drawing.specs.CombineCandidatesRefusals.{IsOpenFault}
 use Rattle.fvn_combine.proofs.looking.look_at_near_leaf.Goals as goal
 
 pub returns-then-not-are_of_one_kind : goal.returns-then-not-are_of_one_kind
@@ -12,15 +11,8 @@ returns-then-not-are_of_one_kind c = λ u h.
     false≢true (sym c.if-not-are_of_one_kind.true ∙ c.are_of_one_kind.ensures.1
     (c.classes_have_one_kind.ensures k.declarations is.good.fits (problem_of k.given) is.is_given.kinds k.table is.well_made is.table_of u h.0.unifies c.args.state.now c.requires.near.closed h.1))
 
-pub look_at_refused-requires : goal.look_at_refused-requires
-look_at_refused-requires c = record {
-  near = c.requires.near;
-  kinds = c.are_of_one_kind.ensures.0 c.if-not-are_of_one_kind.false;
-  reading = c.requires.reading;
-  heads = c.requires.heads;
-  sorted = c.requires.sorted;
-  refused = subst (IsOpenFault c.args.reading.sums) c.in-Err-Basis.field-0-is c.in-Err-Basis.ensures.refused;
-}
-
 pub look_at_bases-requires-clause-kinds : goal.look_at_bases-requires-clause-kinds
 look_at_bases-requires-clause-kinds c = c.are_of_one_kind.ensures.0 c.if-not-are_of_one_kind.false
+
+pub look_at_systems-requires-clause-kinds : goal.look_at_systems-requires-clause-kinds
+look_at_systems-requires-clause-kinds c = c.are_of_one_kind.ensures.0 c.if-not-are_of_one_kind.false

@@ -1,7 +1,7 @@
 -- The question is open; where none is, the refused system is that of a leaf.
 use Rattle.std.proofs.Common.{sym, subst, Some}
 use Rattle.fvn_combine_nodes.specs.States.{class_of}
-use Rattle.fvn_combine_leaves.specs.Leaves.{IsLeaf, IsQuestion}
+use Rattle.fvn_combine_leaves.specs.Leaves.{IsFullLeaf, IsFullQuestion}
 use Rattle.fvn_combine.specs.Tasks.{Combining}
 use Rattle.fvn_combine.proofs.Ends.{refused_at}
 use Rattle.fvn_combine.proofs.looking.look_at_refused.Goals as goal
@@ -11,12 +11,12 @@ returns c =
     let k = c.args.task.now in
     let s = c.args.state.now in
     let is = c.recall.ensures in
-    let leaf = subst (λ (k : Combining). IsLeaf k.declarations k.table s) c.task.view_is c.in-None-question_on_all.ensures in (
+    let leaf = subst (λ (k : Combining). IsFullLeaf k.declarations k.table s) c.task.view_is c.in-None-question_on_all.ensures in (
       c.refusals_are_causes.ensures k.declarations k.given k.first is.is_given k.table is.well_made is.table_of (class_of s) c.requires.near.partition c.args.reading c.requires.reading c.args.f c.args.system c.requires.refused,
       refused_at k s leaf c.args.reading c.requires.reading c.args.f c.args.system c.requires.refused,
     )
 
 pub asked-requires : goal.asked-requires
 asked-requires c =
-    let q = subst (λ (k : Combining). IsQuestion k.declarations k.table c.args.state.now (Some c.in-Some-question_on_all.pair)) c.task.view_is c.in-Some-question_on_all.ensures in
+    let q = subst (λ (k : Combining). IsFullQuestion k.declarations k.table c.args.state.now (Some c.in-Some-question_on_all.pair)) c.task.view_is c.in-Some-question_on_all.ensures in
     record { closed = c.requires.near.closed; heads = c.requires.heads; sorted = c.requires.sorted; left = q.0; right = q.1; «open» = q.2 }

@@ -5,4 +5,4 @@ use Rattle.fvn_combine_questions.specs.inner.Touched.{ArePastTouched}
 use Rattle.fvn_combine_questions.proofs.touched.open_touched.Given as goal
 
 abbrev pub invariant-loop-i : goal.invariant-loop-i
-invariant-loop-i l = (i : ℕ) (e : Sums) → i < l.i → slice_get l.reading.sums i ≡ Some e → ArePastTouched l.state l.reading e (slice_index_or l.bases i [])
+invariant-loop-i l = (i : ℕ) (e : Sums) → i < l.i → slice_get l.reading.sums i ≡ Some e → ArePastTouched l.reading e l.state (slice_index_or l.bases i [])
