@@ -164,7 +164,7 @@ module _ (d : Declarations) (t : NodeTable) (made : IsWellMade t) (s : State) (c
               (c.0, c.1, get_or_default e.columns c.0 0 k c.1 ∙ c.2)
 
           module _ (k l : ℕ) (mk : MayBeConstant d t (class_of s) e.operator k) (ml : MayBeConstant d t (class_of s) e.operator l) (h : AreTouched d t (class_of s) e.operator k l) (live : IsLive d t s e.operator h.columns h.solution) where
-            carried_solution : List ℕ
+            abbrev carried_solution : List ℕ
             carried_solution = carry h.columns e.columns h.solution
 
             -- the solution, in the order of the operator's columns
@@ -173,7 +173,7 @@ module _ (d : Declarations) (t : NodeTable) (made : IsWellMade t) (s : State) (c
                 let minimal = minimal_carried t (class_of s) e.operator h.columns e.columns h.system e.system h.is sums_of.is_system h.solution h.minimal in
                 map_contains (λ (w : Solution). w.parts) (get_or bases c.0 []) carried_solution (((are.each c.0 e at_place).exact carried_solution).1 minimal)
 
-            own : Solution
+            abbrev own : Solution
             own = own_solution.0
 
             part : (j : ℕ) → j < length e.columns → get_or own.parts j 0 ≡ component h.columns h.solution (get_or e.columns j 0)

@@ -1,5 +1,5 @@
 -- One more column.
-use Rattle.std.proofs.Common.{ℕ, List, get_or, sym, ◌∙◌, subst}
+use Rattle.std.proofs.Common.{sym, ◌∙◌}
 use Rattle.std.proofs.lemmas.Bool.{false≢true}
 use Rattle.fvn_combine_questions.specs.inner.Touched.{StandsIn, AreToldIn}
 use Rattle.fvn_combine_questions.proofs.Passing.{more_below}
@@ -12,8 +12,8 @@ loop-j-preserved-then-not-stands c =
     more_below (λ j. StandsIn r e c.args.v.now j → AreToldIn r e c.args.state.now c.args.i j) c.loop-j.j c.loop-j.invariant
     (λ own. absurd (false≢true (sym c.if-not-stands.true ∙ c.stands.ensures.1 own)))
 
-pub loop-j-preserved-then-are_told : goal.loop-j-preserved-then-are_told
-loop-j-preserved-then-are_told c =
+pub loop-j-preserved : goal.loop-j-preserved
+loop-j-preserved c =
     let r = c.args.reading.now in
     let e = c.args.sums.now in
     more_below (λ j. StandsIn r e c.args.v.now j → AreToldIn r e c.args.state.now c.args.i j) c.loop-j.j c.loop-j.invariant

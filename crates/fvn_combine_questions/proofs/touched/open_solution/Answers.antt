@@ -1,5 +1,5 @@
 -- One more column.
-use Rattle.std.proofs.Common.{sym, ◌∙◌, inl, inr}
+use Rattle.std.proofs.Common.{sym, ◌∙◌, inl}
 use Rattle.std.proofs.lemmas.Bool.{false≢true}
 use Rattle.fvn_combine_questions.specs.inner.Touched.{StandsIn, ArePastColumns}
 use Rattle.fvn_combine_questions.proofs.Passing.{more_below}
