@@ -1,5 +1,5 @@
 -- Systems with their rows in another order have the same minimal solutions.
-use Rattle.std.proofs.Common.{◌≡◌, ℕ, ◌+◌, ◌-◌, ◌<◌, ℤ, pos, List, [], ◌∷◌, ◌++◌, length, take, get_or, reverse, slice_index_or, sym, ap, ◌∙◌, subst, arith, All, Contains}
+use Rattle.std.proofs.Common.{◌≡◌, ℕ, ◌+◌, ◌-◌, ◌<◌, ℤ, pos, List, [], ◌∷◌, ◌++◌, length, take, get_or, reverse, slice_index_or, sym, ap, ◌∙◌, subst, arith, All, Contains, inl, inr}
 use Rattle.std.specs.Prelude.{◌↔◌, unsigned_abs, ◌≤◌}
 use Rattle.std.proofs.lemmas.List.{append_assoc, length-reverse, get_or-reverse, reverse-reverse, take_more}
 use Rattle.std.proofs.lemmas.List.Elements.{All-contains, All-weaker, All-contains_itself, Contains-append_right, Contains-append_cases}
