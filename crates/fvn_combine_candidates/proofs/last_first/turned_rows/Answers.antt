@@ -1,6 +1,6 @@
 -- One more row from the end.
 use Rattle.std.proofs.Common.{◌∷◌, [], ◌++◌, length, take, reverse, sym, ap, ◌∙◌, arith}
-use Rattle.std.proofs.lemmas.List.{append-nil, append_assoc, length-reverse, take_all}
+use Rattle.std.proofs.lemmas.List.{append-nil, length-reverse, take_all}
 use Rattle.fvn_combine_candidates.proofs.Turned.{more_turned}
 use Rattle.fvn_combine_candidates.proofs.last_first.turned_rows.Goals as goal
 
