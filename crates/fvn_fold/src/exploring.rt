@@ -188,10 +188,16 @@ fn levels<R: Threads + Sync, G: Gate, E: Expander>(
     let mut depth = 0;
     let mut expected = 0;
     loop {
-        let kept = run.kept.as_slice();
-        let members = run.members.as_slice();
-        let level = next_level(rt, task, gate, kept, members, expected)?;
-        let children = most_children(expected, level.next.len(), level.children, members.len());
+        let level = next_level(
+            rt,
+            task,
+            gate,
+            run.kept.as_slice(),
+            run.members.as_slice(),
+            expected,
+        )?;
+        let members = run.members.len();
+        let children = most_children(expected, level.next.len(), level.children, members);
         match after_level(task.alloc, task.sig, task.limits, run, depth, level)? {
             Turn::Done(x) => return Ok(x),
             Turn::On(more) => {
