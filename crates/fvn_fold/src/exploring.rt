@@ -11,6 +11,7 @@ ghost use Rattle.fvn_fold.specs.inner.Running.{lists_of, AreKept, IsEndedAtLast,
 use crate::beginning::{Begun, begin};
 use crate::levels::{Level, Task, is_whole, next_level};
 use crate::runs::{Run, finish, first_run, with_level};
+use crate::sharing::most_children;
 use fvn_base::Seq;
 use fvn_closure::{coverings_carry_liftings, level_runs_are_lawful};
 use fvn_cover::{Gate, Kept, Variant};
@@ -41,7 +42,11 @@ fn at_last(
         (IsEndedAtLast sig.now limits (lists_of run) limits.levels level.next.items level.end) }
 {
     let depth = limits.levels;
-    let Level { next, end } = level;
+    let Level {
+        next,
+        end,
+        children: _,
+    } = level;
     let mut left = next;
     if left.is_empty() {
         let x = finish(alloc, sig, run, depth, end.into_explore_end())?;
@@ -102,7 +107,11 @@ fn next_turn(
         (IsTurned sig.now limits (lists_of run) depth level.next.items level.end) }
 {
     let over = is_over(&level);
-    let Level { next, end } = level;
+    let Level {
+        next,
+        end,
+        children: _,
+    } = level;
     let more = with_level(alloc, sig, run, depth, next)?;
     if !over {
         return Ok(Turn::On(more));
@@ -132,7 +141,11 @@ fn after_level(
     }
     let room = limits.variants as usize - run.kept.len();
     if level.next.len() > room {
-        let Level { next, end: _ } = level;
+        let Level {
+            next,
+            end: _,
+            children: _,
+        } = level;
         let x = full(alloc, sig, limits, run, depth, next)?;
         return Ok(Turn::Done(x));
     }
@@ -173,13 +186,24 @@ fn levels<R: Threads + Sync, G: Gate, E: Expander>(
     covering_is_reflexive_and_transitive();
     let mut run = first_run(task.alloc, task.sig, first)?;
     let mut depth = 0;
+    let mut expected = 0;
     loop {
-        let level = next_level(rt, task, gate, run.kept.as_slice(), run.members.as_slice())?;
+        let level = next_level(
+            rt,
+            task,
+            gate,
+            run.kept.as_slice(),
+            run.members.as_slice(),
+            expected,
+        )?;
+        let members = run.members.len();
+        let children = most_children(expected, level.next.len(), level.children, members);
         match after_level(task.alloc, task.sig, task.limits, run, depth, level)? {
             Turn::Done(x) => return Ok(x),
             Turn::On(more) => {
                 run = more;
                 depth = level_below(depth, task.limits);
+                expected = children;
             }
         }
     }

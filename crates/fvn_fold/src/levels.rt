@@ -1,13 +1,14 @@
 //! The next level of a level: its members are expanded, and their children folded into those that are kept.
-ghost use Rattle.std.specs.Prelude.{◌≡◌, true, ◌↔◌, IsTrue, IfOk, All, Contains};
+ghost use Rattle.std.specs.Prelude.{◌≡◌, ◌≤◌, true, ◌↔◌, IsTrue, IfOk, All, Contains};
 ghost use Rattle.fvn_cover.specs.Covering.{CoversVariant, AreAlike, IsFlatVariant};
 ghost use Rattle.fvn_terms.specs.CompleteSets.{IsApart};
 ghost use Rattle.fvn_cover.specs.Marks.{AreComparable, AreMarks};
+ghost use Rattle.fvn_cover.specs.declared.marking.TheConstants.{WORKERS};
 ghost use Rattle.fvn_exploring.specs.declared.ends.ExpandEnd.TheVariants.{Whole};
 ghost use Rattle.fvn_fold.specs.inner.Gathering.{IsTask, AreReady, IsGatheredFrom, IsMarkedOrAdded, AreTaken, AreNext, IsMoreOfLevel, IsNextLevel};
 
 use crate::expanding::expand_level;
-use crate::sharing::{COMPARISONS, MEMBERS, sharers};
+use crate::sharing::{COMPARISONS, MEMBERS, run_workers, sharers};
 use fvn_cover::{
     Gate, Kept, Variant, all_kept, covering_of_variants_is_a_preorder, marks, with_member,
 };
@@ -36,11 +37,12 @@ struct Gathered {
     end: ExpandEnd,
 }
 
-/// The next level, and the first end of a member that is not Whole, if there is one.
+/// The next level, the first end of a member that is not Whole, if there is one, and how many children the members had.
 #[derive(Drop)]
 pub(crate) struct Level {
     pub next: Vec<Kept>,
     pub end: ExpandEnd,
+    pub children: usize,
 }
 
 /// Whether the end is Whole.
@@ -133,23 +135,26 @@ fn chunk_level<R: Threads + Sync, G: Gate, E: Expander>(
     kept: &[Kept],
     members: &[Variant],
     before: Vec<Kept>,
+    workers: u32,
 ) -> Result<Level, NoMemory>
     requires task { IsTask (E.setting task.now.expander.now) task.now.sig.now task.now.limits }
     requires ready { AreReady (E.setting task.now.expander.now) kept.now }
     requires members { All (Contains kept.now) members.now }
     requires before { AreNext (E.setting task.now.expander.now) (E.drawn task.now.expander.now)
         kept.now kept.now before.items }
+    requires some_workers { 1 ≤ workers }
+    requires few_workers { workers ≤ WORKERS }
     ensures { IfOk result (λ l.
         IsMoreOfLevel (E.setting task.now.expander.now) (E.drawn task.now.expander.now)
         kept.now members.now before.items l.next.items l.end) }
 {
-    let workers = task.limits.workers;
     let expanding = sharers(workers, members.len(), MEMBERS);
     let expansions = expand_level(rt, task.alloc, task.expander, members, expanding, gate)?;
     let found = gather(task.alloc, expansions)?;
     let Gathered { candidates, end } = found;
     let children = all_kept(task.alloc, task.sig, candidates)?;
-    let comparisons = children.len().saturating_mul(kept.len());
+    let count = children.len();
+    let comparisons = count.saturating_mul(kept.len());
     let comparing = sharers(workers, comparisons, COMPARISONS);
     let covered = marks(
         rt,
@@ -168,16 +173,23 @@ fn chunk_level<R: Threads + Sync, G: Gate, E: Expander>(
         children,
         covered.as_slice(),
     )?;
-    Ok(Level { next, end })
+    Ok(Level {
+        next,
+        end,
+        children: count,
+    })
 }
 
 /// The next level of a level, and the first end of a member that is not Whole, if there is one.
+///
+/// Several workers find it where as many children are expected, of this level or one before, as are worth threads.
 pub(crate) fn next_level<R: Threads + Sync, G: Gate, E: Expander>(
     rt: &R,
     task: &Task<'_, E>,
     gate: &G,
     kept: &[Kept],
     members: &[Variant],
+    expected: usize,
 ) -> Result<Level, NoMemory>
     requires task { IsTask (E.setting task.now.expander.now) task.now.sig.now task.now.limits }
     requires ready { AreReady (E.setting task.now.expander.now) kept.now }
@@ -186,20 +198,25 @@ pub(crate) fn next_level<R: Threads + Sync, G: Gate, E: Expander>(
         IsNextLevel (E.setting task.now.expander.now) (E.drawn task.now.expander.now)
         kept.now members.now l.next.items l.end) }
 {
-    let size = (CHUNK as usize) * (task.limits.workers as usize);
+    let workers = run_workers(task.limits.workers, expected);
+    let size = (CHUNK as usize) * (workers as usize);
     let mut next = Vec::new(task.alloc);
+    let mut children: usize = 0;
     let mut begin = 0;
     while begin < members.len() {
         let after = members.len().min(begin + size);
-        let level = chunk_level(rt, task, gate, kept, &members[begin..after], next)?;
+        let chunk = &members[begin..after];
+        let level = chunk_level(rt, task, gate, kept, chunk, next, workers)?;
         if !is_whole(&level.end) {
             return Ok(level);
         }
+        children = children.saturating_add(level.children);
         next = level.next;
         begin = after;
     }
     Ok(Level {
         next,
         end: ExpandEnd::Whole,
+        children,
     })
 }

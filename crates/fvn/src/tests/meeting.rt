@@ -10,12 +10,13 @@ use std::thread::{Threads, yield_now};
 /// The looks of a piece for another.
 const LOOKS: u32 = 10_000_000;
 
-/// Twelve steps lead from the start, so that its level below is work for two.
+/// Eighteen steps lead from the start: were there as many from each of those below, its level would have 324 children,
+/// which is work for two.
 const CHOICE: &str =
-    "fmod CHOICE is sort S . ops a b c d e g h i j k l m : -> S . op f : S -> S . var X : S . eq f(a) = a [variant] . eq f(b) = b [variant] . eq f(c) = c [variant] . eq f(d) = d [variant] . eq f(e) = e [variant] . eq f(g) = g [variant] . eq f(h) = h [variant] . eq f(i) = i [variant] . eq f(j) = j [variant] . eq f(k) = k [variant] . eq f(l) = l [variant] . eq f(m) = m [variant] . endfm";
+    "fmod CHOICE is sort S . ops a b c d e g h i j k l m n o p q r s : -> S . op f : S -> S . var X : S . eq f(a) = a [variant] . eq f(b) = b [variant] . eq f(c) = c [variant] . eq f(d) = d [variant] . eq f(e) = e [variant] . eq f(g) = g [variant] . eq f(h) = h [variant] . eq f(i) = i [variant] . eq f(j) = j [variant] . eq f(k) = k [variant] . eq f(l) = l [variant] . eq f(m) = m [variant] . eq f(n) = n [variant] . eq f(o) = o [variant] . eq f(p) = p [variant] . eq f(q) = q [variant] . eq f(r) = r [variant] . eq f(s) = s [variant] . endfm";
 
 const VARIANTS: &str =
-    "variants | f(X) | --workers | 2 ==> 0 | a {X:S --> a} | b {X:S --> b} | c {X:S --> c} | d {X:S --> d} | e {X:S --> e} | f(#1:S) {X:S --> #1:S} | g {X:S --> g} | h {X:S --> h} | i {X:S --> i} | j {X:S --> j} | k {X:S --> k} | l {X:S --> l} | m {X:S --> m} | complete 13";
+    "variants | f(X) | --workers | 2 ==> 0 | a {X:S --> a} | b {X:S --> b} | c {X:S --> c} | d {X:S --> d} | e {X:S --> e} | f(#1:S) {X:S --> #1:S} | g {X:S --> g} | h {X:S --> h} | i {X:S --> i} | j {X:S --> j} | k {X:S --> k} | l {X:S --> l} | m {X:S --> m} | n {X:S --> n} | o {X:S --> o} | p {X:S --> p} | q {X:S --> q} | r {X:S --> r} | s {X:S --> s} | complete 19";
 
 const UNIFIERS: &str = "vunify | f(X) =? a | --workers | 2 ==> 0 | {X:S --> a} | complete 1";
 

@@ -6,10 +6,10 @@ use Rattle.fvn_fold.proofs.Chunks.{chunk_facts}
 use Rattle.fvn_fold.proofs.levels.chunk_level.Goals as goal
 
 pub expand_level-requires-clause-workers : goal.expand_level-requires-clause-workers
-expand_level-requires-clause-workers g c κs within = (c.sharers-expanding.ensures.some, omega (arith, c.sharers-expanding.ensures.most, c.requires.task.few_workers))
+expand_level-requires-clause-workers g c κs within = (c.sharers-expanding.ensures.some, omega (arith, c.sharers-expanding.ensures.most, c.requires.few_workers))
 
 pub marks-requires-clause-workers : goal.marks-requires-clause-workers
-marks-requires-clause-workers g c κs within = (c.sharers-comparing.ensures.some, omega (arith, c.sharers-comparing.ensures.most, c.requires.task.few_workers))
+marks-requires-clause-workers g c κs within = (c.sharers-comparing.ensures.some, omega (arith, c.sharers-comparing.ensures.most, c.requires.few_workers))
 
 pub expand_level-requires-clause-members : goal.expand_level-requires-clause-members
 expand_level-requires-clause-members g c κs within = kept_expandable (g.E.Expander.setting c.args.task.now.expander.now) c.args.kept.now c.requires.ready c.args.members.now c.requires.members

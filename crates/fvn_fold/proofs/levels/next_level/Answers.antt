@@ -16,8 +16,14 @@ loop-begin-init g c =
 
 pub loop-begin-smaller : goal.loop-begin-smaller
 loop-begin-smaller g c =
-    let some = c.requires.task.some_workers in
+    let some = c.run_workers-workers.ensures.some in
     omega (arith, some)
+
+pub chunk_level-requires-clause-some_workers : goal.chunk_level-requires-clause-some_workers
+chunk_level-requires-clause-some_workers g c κs within = c.run_workers-workers.ensures.some
+
+pub chunk_level-requires-clause-few_workers : goal.chunk_level-requires-clause-few_workers
+chunk_level-requires-clause-few_workers g c κs within = omega (arith, c.run_workers-workers.ensures.most, c.requires.task.few_workers)
 
 pub chunk_level-requires-clause-members : goal.chunk_level-requires-clause-members
 chunk_level-requires-clause-members g c κs within = All-take (Contains c.args.kept.now) _ _ (All-drop (Contains c.args.kept.now) c.loop-begin.begin c.args.members.now c.requires.members)
