@@ -29,4 +29,6 @@ mod Matchers
 mod TwoLists
 mod KeptHeads
 mod TakingApart
+mod KnownForms
+mod LastSteps
 mod Commuting

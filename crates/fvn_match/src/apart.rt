@@ -3,6 +3,7 @@ ghost use Rattle.std.specs.Prelude.{◌≡◌, ◌+◌, true, false, [], ◌∷�
 ghost use Rattle.std.specs.List.{AllZip};
 ghost use Rattle.fvn_terms.specs.Signature.{axioms};
 ghost use Rattle.fvn_terms.specs.declared.declarations.Axioms.TheVariants.{Free, Comm};
+ghost use Rattle.fvn_terms.specs.Equality.{IsAssociative};
 ghost use Rattle.fvn_forms.specs.Flat.{fvar};
 ghost use Rattle.fvn_forms.specs.Canon.{inst};
 ghost use Rattle.fvn_flat.specs.Bindings.{value};
@@ -11,6 +12,7 @@ ghost use Rattle.fvn_match.specs.inner.Summands.{references};
 ghost use Rattle.fvn_match.specs.inner.Candidates.{IsCandidate};
 ghost use Rattle.fvn_match.specs.inner.Goals.{AllMake, IsPair, bindings_of, with_bindings, weight, weight_of};
 ghost use Rattle.fvn_match.specs.inner.Heads.{IsLost};
+ghost use Rattle.fvn_match.specs.inner.Last.{Leaves};
 ghost use Rattle.fvn_match.specs.inner.Refusing.{NeverMakes};
 ghost use Rattle.fvn_match.specs.inner.Searching.{IsCrossing};
 ghost use Rattle.fvn_match.specs.inner.Apart.{
@@ -23,8 +25,10 @@ ghost use Rattle.fvn_match.specs.inner.Apart.{
   IsOnlyOrder,
 };
 
-use crate::goals::{Binding, Bound, newest};
+use crate::goals::{Binding, Bound, Latest, newest};
 use crate::heads::heads_allow;
+use crate::instances::{are_bound, instance};
+use crate::last::{Last, last_of};
 use crate::pairing::has_sort_of;
 use crate::summands::is_headed;
 use crate::variables::is_closed;
@@ -36,6 +40,7 @@ use std::alloc::Global;
 // Variables with their values, and patterns of which some part is to be chosen, with their targets.
 #[derive(Drop)]
 pub(crate) struct Apart<'a> {
+    pub(crate) alloc: Global,
     pub(crate) values: Vec<Binding<'a>>,
     pub(crate) patterns: Vec<&'a Flat>,
     pub(crate) targets: Vec<&'a Flat>,
@@ -53,6 +58,7 @@ pub(crate) fn untouched<'a>(alloc: Global) -> Apart<'a>
     ensures { IsUntouched result }
 {
     Apart {
+        alloc,
         values: Vec::new(alloc),
         patterns: Vec::new(alloc),
         targets: Vec::new(alloc),
@@ -71,17 +77,6 @@ fn is_free(sig: &Signature, f: OpId) -> bool
         return false;
     }
     true
-}
-
-// Whether the operator is commutative, and not associative.
-fn has_two_orders(sig: &Signature, f: OpId) -> bool
-    ensures { IsTrue result → axioms sig.now f ≡ Comm }
-{
-    let axioms = sig.axioms(f);
-    if axioms.is_sum() {
-        return false;
-    }
-    axioms.is_commutative()
 }
 
 // Whether heads tell that the term is no instance of the pattern, or the pattern has no variables and is another form.
@@ -146,6 +141,80 @@ impl<'a> Apart<'a> {
         self.patterns.push(p)?;
         self.targets.push(t)?;
         Ok(())
+    }
+
+    // Whether the pattern makes the target, where each of its variables has a value.
+    fn made<'x>(
+        &'x self,
+        sig: &Signature,
+        bound: &'x Bound<'x>,
+        p: &Flat,
+        t: &Flat,
+    ) -> Result<Option<bool>, NoMemory>
+        requires pair { IsPair sig.now p.now t.now }
+        requires fits { ApartFits sig.now (bindings_of bound.now) self.now }
+        ensures { IfOk result (λ found. IfSome found (TakesApart sig.now
+            (bindings_of bound.now) self.now self.now
+            (λ c. inst sig.now c p.now ≡ t.now) (weight p.now + 2))) }
+    {
+        let values = Latest {
+            pairs: self.values.as_slice(),
+        };
+        let more = Bound::Several(values, &*bound);
+        let known = are_bound(&more, p);
+        if !known {
+            return Ok(None);
+        }
+        let u = instance(self.alloc, sig, &more, p)?;
+        let is = u.same(t);
+        Ok(Some(is))
+    }
+
+    // A pair of which some part is to be chosen, unless each variable has a value.
+    fn keep_open(
+        &mut self,
+        sig: &Signature,
+        bound: &Bound<'_>,
+        p: &'a Flat,
+        t: &'a Flat,
+    ) -> Result<bool, NoMemory>
+        requires pair { IsPair sig.now p.now t.now }
+        requires fits { ApartFits sig.now (bindings_of bound.now) self.old }
+        ensures { IfOk result (TakesApart sig.now (bindings_of bound.now) self.old self.new
+            (λ c. inst sig.now c p.now ≡ t.now) (weight p.now + 2)) }
+    {
+        let made = self.made(sig, &*bound, p, t)?;
+        match made {
+            Some(is) => Ok(is),
+            None => {
+                self.keep(sig, bound, p, t)?;
+                Ok(true)
+            }
+        }
+    }
+
+    // What is left of a sum under the values from before and those that were found here.
+    fn last<'x>(
+        &'x self,
+        sig: &Signature,
+        bound: &'x Bound<'x>,
+        f: OpId,
+        p: &'a Flat,
+        t: &'a Flat,
+    ) -> Result<Last<'a>, NoMemory>
+        requires associative { IsAssociative (axioms sig.now f) }
+        requires head { head_of p.now ≡ Some f }
+        requires pair { IsPair sig.now p.now t.now }
+        requires fits { ApartFits sig.now (bindings_of bound.now) self.now }
+        ensures { IfOk result (Leaves sig.now
+            (values_with sig.now (bindings_of bound.now) self.now) p.now t.now) }
+    {
+        let values = Latest {
+            pairs: self.values.as_slice(),
+        };
+        let more = Bound::Several(values, &*bound);
+        let last = last_of(self.alloc, sig, &more, f, p, t)?;
+        Ok(last)
     }
 
     // Whether the variable has another value, from before or found here.
@@ -261,15 +330,14 @@ impl<'a> Apart<'a> {
             Some(f) => f,
         };
         sig.recall_good();
-        let two = has_two_orders(sig, f);
-        if two {
+        let axioms = sig.axioms(f);
+        if axioms.is_sum() {
+            let left = self.take_sum(sig, bound, f, p, t)?;
+            return Ok(left);
+        }
+        if axioms.is_commutative() {
             let made = self.take_either(sig, bound, f, p, t)?;
             return Ok(made);
-        }
-        let free = is_free(sig, f);
-        if !free {
-            self.keep(sig, bound, p, t)?;
-            return Ok(true);
         }
         let headed = is_headed(t, f);
         if !headed {
@@ -277,6 +345,39 @@ impl<'a> Apart<'a> {
         }
         let all = self.take_all(sig, bound, p.args(), t.args())?;
         Ok(all)
+    }
+
+    // A pair under an associative operator, without what is known of it: it is kept where two patterns are left, or one
+    // and several pieces.
+    #[cycle(apart)]
+    fn take_sum(
+        &mut self,
+        sig: &Signature,
+        bound: &Bound<'_>,
+        f: OpId,
+        p: &'a Flat,
+        t: &'a Flat,
+    ) -> Result<bool, NoMemory>
+        requires associative { IsAssociative (axioms sig.now f) }
+        requires head { head_of p.now ≡ Some f }
+        requires pair { IsPair sig.now p.now t.now }
+        requires fits { ApartFits sig.now (bindings_of bound.now) self.old }
+        ensures { IfOk result (TakesApart sig.now (bindings_of bound.now) self.old self.new
+            (λ c. inst sig.now c p.now ≡ t.now) (weight p.now + 2)) }
+    {
+        let last = self.last(sig, &*bound, f, p, t)?;
+        match last {
+            Last::Never => Ok(false),
+            Last::Made => Ok(true),
+            Last::One(q, u) => {
+                let can = self.take(sig, bound, q, u)?;
+                Ok(can)
+            }
+            Last::Several => {
+                let kept = self.keep_open(sig, bound, p, t)?;
+                Ok(kept)
+            }
+        }
     }
 
     // A pair under a commutative operator: it is kept where either order of the targets is left.
@@ -305,8 +406,8 @@ impl<'a> Apart<'a> {
         let ts = t.args();
         let order = match self.only_order(sig, bound, ps, ts) {
             None => {
-                self.keep(sig, bound, p, t)?;
-                return Ok(true);
+                let kept = self.keep_open(sig, bound, p, t)?;
+                return Ok(kept);
             }
             Some(order) => order,
         };
