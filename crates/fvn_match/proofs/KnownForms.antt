@@ -31,7 +31,7 @@ IsBound b x = (v : FlatTerm) × (bound b x ≡ Some v)
 -- a variable that is bound
 pub variable_bound : (b : Bindings) (x : Var) (found : Option (Bor FlatTerm)) → IsBoundTo b x found → is_some found ≡ true → AreBound b (fvar x)
 variable_bound b x None h some = cc
-variable_bound b x (Some v) h some = λ y o. (v.now, subst (λ z. bound b z ≡ Some v.now) o h)
+variable_bound b x (Some v) h some = λ y o. (v.now, subst (λ z. bound b z ≡ Some v.now) (sym o) h)
 
 -- each variable of the arguments is bound, or stands in one that is left
 abbrev pub AreBoundOr : Bindings → List FlatTerm → List FlatTerm → Type 0
@@ -48,11 +48,11 @@ one_bound b all ts i t within is here before x o = go (before x o)
     next (inr later) = inr later
 
     go : IsBound b x ⊎ OccursIn x (drop i ts) → IsBound b x ⊎ OccursIn x (drop (i + 1) ts)
-    go (inl yes) = inl yes
+    go (inl found) = inl found
     go (inr o) = next (subst (OccursIn x) first o)
 
 pub all_bound : (b : Bindings) (all : List FlatTerm) → AreBoundOr b all [] → (x : Var) → OccursIn x all → IsBound b x
-all_bound b all h x o = elim h x o [ inl yes ↦ yes | inr none ↦ absurd none ]
+all_bound b all h x o = elim (h x o) [ inl found ↦ found | inr none ↦ absurd none ]
 
 module _ (d : Declarations) (b : Bindings) (p : FlatTerm) (vars : List Var) (are : AreVariablesOf (p ∷ []) vars) where
   -- their values make one form of the pattern
@@ -68,7 +68,7 @@ module _ (d : Declarations) (b : Bindings) (p : FlatTerm) (vars : List Var) (are
   values_fit good candidate k kinded = (bindings_candidate d good (value b) candidate vars known).flat
     where
       known : (x : Var) → IsAmong vars x → IsSort d x.sort
-      known x h = elim (occurs_in_some x (p ∷ [])).1 ((are.just x).0 h) [ inl o ↦ occurs_known d x (plain p) k kinded o | inr none ↦ absurd none ]
+      known x h = elim ((occurs_in_some x (p ∷ [])).1 ((are.just x).0 h)) [ inl o ↦ occurs_known d x (plain p) k kinded o | inr none ↦ absurd none ]
 
 -- a pattern that makes one form is compared with the target
 pub made_apart : (d : Declarations) (b : Bindings) (a : Apart) → ApartFits d b a → (p t u : FlatTerm) → MakesOnly d (values_with d b a) p u → (same : Bool) → IsTrue same ↔ (u ≡ t) → TakesApart d b a a (λ c. inst d c p ≡ t) (weight p + 2) same

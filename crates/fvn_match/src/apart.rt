@@ -185,7 +185,7 @@ impl<'a> Apart<'a> {
     {
         let made = self.made(sig, &*bound, p, t)?;
         match made {
-            Some(is) => Ok(is),
+            Some(equal) => Ok(equal),
             None => {
                 self.keep(sig, bound, p, t)?;
                 Ok(true)

@@ -91,10 +91,11 @@ pub(crate) fn without_known<'a>(
 {
     let mut patterns = Vec::new(alloc);
     let mut left = copied(alloc, goal.left)?;
-    for p in all {
+    for i in 0..all.len() {
+        let p = all[i];
         let v = match known_value(p, bound) {
             None => {
-                patterns.push(*p)?;
+                patterns.push(p)?;
                 continue;
             }
             Some(v) => v,

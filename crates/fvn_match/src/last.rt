@@ -12,7 +12,7 @@ ghost use Rattle.fvn_match.specs.inner.Last.{IsLastOf, Leaves};
 
 use crate::choices::total;
 use crate::goals::{Bound, SumGoal};
-use crate::known::{Open, without_known};
+use crate::known::without_known;
 use crate::summands::{count_pieces, reversed, summands};
 use crate::wholes::are_zero;
 use fvn_flat::Flat;
@@ -60,23 +60,23 @@ fn only_piece<'a>(pieces: &[&'a Flat], left: &[usize]) -> Option<&'a Flat>
 }
 
 // What patterns that are open and pieces that are left of a sum leave.
-fn last_open<'a>(open: &Open<'a>, pieces: &[&'a Flat]) -> Last<'a>
-    requires long { length open.now.left.items ≡ length pieces.now }
-    requires small { sum open.now.left.items < 2 ^ 64 }
-    ensures { IsLastOf (references pieces.now) open.now result }
+fn last_open<'a>(patterns: &[&'a Flat], pieces: &[&'a Flat], left: &[usize]) -> Last<'a>
+    requires long { length left.now ≡ length pieces.now }
+    requires small { sum left.now < 2 ^ 64 }
+    ensures { IsLastOf (references patterns.now) (references pieces.now) left.now result }
 {
-    if open.patterns.is_empty() {
-        if are_zero(open.left.as_slice()) {
+    if patterns.is_empty() {
+        if are_zero(left) {
             return Last::Made;
         }
         return Last::Never;
     }
-    if open.patterns.len() != 1 {
+    if patterns.len() != 1 {
         return Last::Several;
     }
-    match only_piece(pieces, open.left.as_slice()) {
+    match only_piece(pieces, left) {
         None => Last::Several,
-        Some(u) => Last::One(open.patterns[0], u),
+        Some(u) => Last::One(patterns[0], u),
     }
 }
 
@@ -101,8 +101,8 @@ pub(crate) fn last_of<'a>(
     let patterns = reversed(alloc, ps)?;
     let counted = count_pieces(alloc, ts)?;
     let all = patterns.as_slice();
-    let pieces = counted.pieces.as_slice();
     let left = counted.left.as_slice();
+    let pieces = counted.pieces.as_slice();
     let goal = SumGoal {
         op: f,
         patterns: all,
@@ -113,6 +113,6 @@ pub(crate) fn last_of<'a>(
     let known = without_known(alloc, sig, &goal, all, bound)?;
     match known {
         None => Ok(Last::Never),
-        Some(open) => Ok(last_open(&open, pieces)),
+        Some(open) => Ok(last_open(open.patterns.as_slice(), pieces, open.left.as_slice())),
     }
 }

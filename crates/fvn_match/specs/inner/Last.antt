@@ -1,24 +1,22 @@
 -- What is left of a sum without what is known of it.
-use Rattle.std.specs.Prelude.{◌≡◌, ◌<◌, ◌↔◌, List, [], ◌∷◌, length, sum as std_sum}
+use Rattle.std.specs.Prelude.{◌≡◌, ◌<◌, ◌↔◌, ℕ, List, [], ◌∷◌, sum as std_sum}
 use Rattle.fvn_terms.specs.declared.declarations.Declarations.{Declarations}
 use Rattle.fvn_forms.specs.Flat.{FlatTerm}
 use Rattle.fvn_forms.specs.Canon.{inst}
 use Rattle.fvn_flat.specs.Bindings.{Bindings}
 use Rattle.fvn_match.specs.inner.Tallies.{repeated}
-use Rattle.fvn_match.specs.inner.Summands.{references}
 use Rattle.fvn_match.specs.inner.Candidates.{Values, IsCandidate, Agrees}
 use Rattle.fvn_match.specs.inner.Goals.{IsPair, weight}
 use Rattle.fvn_match.specs.inner.Refusing.{NeverMakes}
-use Rattle.fvn_match.specs.declared.known.Open.{Open}
 use Rattle.fvn_match.specs.declared.last.Last.{Last}
 use Rattle.fvn_match.specs.declared.last.Last.TheVariants.{Never, Made, One, Several}
 
 -- no pattern is open and some piece is left or none, or one of each
-abbrev pub IsLastOf : List FlatTerm → Open → Last → Type 0
-IsLastOf pieces o Never = (length o.patterns.items ≡ 0) × (std_sum o.left.items ≡ 0 → ⊥)
-IsLastOf pieces o Made = (length o.patterns.items ≡ 0) × (std_sum o.left.items ≡ 0)
-IsLastOf pieces o (One q u) = (references o.patterns.items ≡ q.now ∷ []) × (repeated pieces o.left.items ≡ u.now ∷ [])
-IsLastOf pieces o Several = Unit {0}
+abbrev pub IsLastOf : List FlatTerm → List FlatTerm → List ℕ → Last → Type 0
+IsLastOf patterns pieces left Never = (patterns ≡ []) × (std_sum left ≡ 0 → ⊥)
+IsLastOf patterns pieces left Made = (patterns ≡ []) × (std_sum left ≡ 0)
+IsLastOf patterns pieces left (One q u) = (patterns ≡ q.now ∷ []) × (repeated pieces left ≡ u.now ∷ [])
+IsLastOf patterns pieces left Several = Unit {0}
 
 module _ (d : Declarations) (b : Bindings) (p t : FlatTerm) where
   -- just where p makes t the lighter pattern q makes u

@@ -9,4 +9,4 @@ abbrev pub decreases-are_bound : goal.decreases-are_bound
 decreases-are_bound l = places l.t.now
 
 abbrev pub invariant-loop-u : goal.invariant-loop-u
-invariant-loop-u l = AreBoundOr (bindings_of l.bound.now) l.u-items (drop l.u-index l.u-items)
+invariant-loop-u l = AreBoundOr (bindings_of l.bound) l.u-items (drop l.u-index l.u-items)

@@ -15,7 +15,7 @@ pub apply-requires-clause-subst : goal.apply-requires-clause-subst
 apply-requires-clause-subst c =
     let d = c.args.sig.now in
     let b = bindings_of c.args.bound.now in
-    let are = subst (λ l. AreVariablesOf (l ++ []) c.in_ok-vars.vars.items) c.from_ref.ensures c.in_ok-vars.ensures in
+    let are = subst (λ l. AreVariablesOf (l ++ []) c.in_ok-vars.vars.items) c.from_ref.ensures.value c.in_ok-vars.ensures in
     let fit = values_fit d b c.args.p.now c.in_ok-vars.vars.items are c.recall_good.ensures c.requires.values c.requires.pattern.kinded.0 c.requires.pattern.kinded.1 in
     subst (BindingsFit d) (ap (λ l. pairs_of l (value b)) (sym c.as_slice.ensures.value) ∙ sym c.in_ok-s.ensures) fit
 
@@ -26,6 +26,6 @@ pub returns : goal.returns
 returns c =
     let d = c.args.sig.now in
     let b = bindings_of c.args.bound.now in
-    let are = subst (λ l. AreVariablesOf (l ++ []) c.in_ok-vars.vars.items) c.from_ref.ensures c.in_ok-vars.ensures in
+    let are = subst (λ l. AreVariablesOf (l ++ []) c.in_ok-vars.vars.items) c.from_ref.ensures.value c.in_ok-vars.ensures in
     let s_is = c.in_ok-s.ensures ∙ ap (λ l. pairs_of l (value b)) c.as_slice.ensures.value in
     instance_only d b c.args.p.now c.in_ok-vars.vars.items are c.in_ok-v.v c.requires.known (c.in_ok-v.ensures.exact ∙ ap (λ s. inst d (value s) c.args.p.now) s_is)

@@ -13,4 +13,4 @@ returns-then-some c =
     let i = c.loop-i.i in
     let long = length_references xs in
     let one : std_sum ns ≡ 1 = omega arith in
-    one_repeated (references xs) ns i c.index-left-i.result c.index-pieces-i.result.now (omega (arith, c.requires.long)) one (omega (arith, c.requires.long)) (references-get xs i c.index-pieces-i.result (omega arith) c.index-pieces-i.is) c.index-left-i.is (c.is_positive-some.ensures.0 c.if-some.true)
+    one_repeated (references xs) ns i _ c.index-pieces-i.result.now (omega (arith, c.requires.long)) one (omega (arith, c.requires.long)) (references-get xs i c.index-pieces-i.result (omega arith) c.index-pieces-i.is) (c.is_positive-some.ensures.0 c.if-some.true)

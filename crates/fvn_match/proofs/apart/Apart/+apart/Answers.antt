@@ -6,12 +6,14 @@ use Rattle.fvn_terms.specs.Equality.{is_sum}
 use Rattle.fvn_terms.proofs.AxiomWords.{sums_associate}
 use Rattle.fvn_forms.specs.Canon.{inst}
 use Rattle.fvn_match.specs.inner.Goals.{bindings_of, IsPair, weight, weight_of}
+use Rattle.fvn_match.specs.inner.Last.{IsLast, Leaves}
 use Rattle.fvn_match.specs.inner.Apart.{values_with, IsOnlyOrder, IsTakenApart, TakesApart}
 use Rattle.fvn_match.proofs.AxiomTests.{free_at, commutative_at}
 use Rattle.fvn_match.proofs.PairSteps.{variable_is, variable_or_head}
 use Rattle.fvn_match.proofs.PairFinding.{zip_long, two_is}
 use Rattle.fvn_match.proofs.Weights.{weight_args}
 use Rattle.fvn_match.proofs.TakingApart.{never_headed, pairs_of_free, taken_by_args, all_left, next_pair, next_weight, left_refused, one_less, none_left}
+use Rattle.fvn_match.proofs.LastSteps.{taken_last, taken_made}
 use Rattle.fvn_match.proofs.Commuting.{never_shared, both_patterns, both_targets, both_crossing, taken_in_order, first_of_two, second_of_two, first_refused, both_taken}
 use Rattle.fvn_match.proofs.apart.Apart.+apart.Goals as goal
 
@@ -65,19 +67,33 @@ take-returns t c =
 
 -- a sum
 pub take_sum-returns-in-Never : goal.take_sum-returns-in-Never
-take_sum-returns-in-Never t c = ?
+take_sum-returns-in-Never t c = λ v k is asked.
+    let d = c.args.sig.now in
+    let b = values_with d (bindings_of c.args.bound.now) c.args.self.now in
+    subst (Leaves d b c.args.p.now c.args.t.now) c.in-Never.is c.in_ok-last.ensures v k asked.0 is
 
 pub take_sum-returns-in-Made : goal.take_sum-returns-in-Made
-take_sum-returns-in-Made t c = ?
+take_sum-returns-in-Made t c =
+    let d = c.args.sig.now in
+    let b = values_with d (bindings_of c.args.bound.now) c.args.self.now in
+    taken_made d (bindings_of c.args.bound.now) c.args.self.now c.args.self.now c.args.p.now c.args.t.now c.requires.fits (subst (Leaves d b c.args.p.now c.args.t.now) c.in-Made.is c.in_ok-last.ensures)
 
 pub take_sum-take-requires : goal.take_sum-take-requires
-take_sum-take-requires t c = ?
+take_sum-take-requires t c =
+    let d = c.args.sig.now in
+    let b = values_with d (bindings_of c.args.bound.now) c.args.self.now in
+    let one : IsLast d b c.args.p.now c.args.t.now c.in-One.q.now c.in-One.u.now = subst (Leaves d b c.args.p.now c.args.t.now) c.in-One.is c.in_ok-last.ensures in
+    (omega (arith, one.lighter), (one.pair, c.requires.fits))
 
-pub take_sum-returns-in_ok-can-in-One : goal.take_sum-returns-in_ok-can-in-One
-take_sum-returns-in_ok-can-in-One t c = ?
+pub take_sum-returns-in-One : goal.take_sum-returns-in-One
+take_sum-returns-in-One t c =
+    let d = c.args.sig.now in
+    let b = values_with d (bindings_of c.args.bound.now) c.args.self.now in
+    taken_last d (bindings_of c.args.bound.now) c.args.self.now c.take.new.self c.args.p.now c.args.t.now c.in-One.q.now c.in-One.u.now (subst (Leaves d b c.args.p.now c.args.t.now) c.in-One.is c.in_ok-last.ensures)
+    c.in_ok-can.can c.in_ok-can.ensures
 
-pub take_sum-returns-in_ok-kept-in-Several : goal.take_sum-returns-in_ok-kept-in-Several
-take_sum-returns-in_ok-kept-in-Several t c = ?
+pub take_sum-returns-in-Several : goal.take_sum-returns-in-Several
+take_sum-returns-in-Several t c = c.in_ok-kept.ensures
 
 -- a commutative pair
 pub take_either-returns-in-None : goal.take_either-returns-in-None
