@@ -1,7 +1,6 @@
 -- A sum without the patterns whose values are known, pattern by pattern.
 use Rattle.std.proofs.Common.{◌≡◌, ℕ, ◌+◌, ◌≤◌, ◌<◌, true, false, List, [], ◌∷◌, ◌++◌, length, drop, get_or, Option, Some, None, refl, sym, ap, ◌∙◌, subst, arith}
 use Rattle.std.specs.Prelude.{◌↔◌, IfSome, sum as std_sum}
-use Rattle.std.specs.List.{AllByRecursion}
 use denote.Ref.{Bor}
 use Rattle.std.proofs.lemmas.List.{append_assoc, append-nil, drop_more, length-append}
 use Rattle.fvn_terms.specs.declared.plain.Var.{Var}
@@ -118,9 +117,8 @@ module _ (d : Declarations) (b : Bindings) (goal : SumGoal) where
         omega (arith, lacks.1)
 
   -- a pattern of the sum is settled
-  pub flat_at : SumFits d goal → (xs : List (Bor FlatTerm)) → xs ≡ goal.patterns.now → (i : ℕ) (p : Bor FlatTerm) → i < length xs → p ≡ get_or xs i p → Settled d p.now
-  flat_at fit xs are i p within is =
-      (each_at (IsFlatOf d (kind d fit.rank.result)) (references xs) (subst (λ l. AllByRecursion (IsFlatOf d (kind d fit.rank.result)) (references l)) (sym are) fit.patterns) i p.now (let z = length_references xs in omega arith) (references-get xs i p within is)).flat
+  pub flat_at : SumFits d goal → (i : ℕ) (p : Bor FlatTerm) → i < length goal.patterns.now → p ≡ get_or goal.patterns.now i p → Settled d p.now
+  flat_at fit i p within is = (each_at (IsFlatOf d (kind d fit.rank.result)) (patterns_of goal) fit.patterns i p.now (let z = length_references goal.patterns.now in omega arith) (references-get goal.patterns.now i p within is)).flat
 
   -- the same along a list of references
   module _ (xs : List (Bor FlatTerm)) (i : ℕ) (p : Bor FlatTerm) (within : i < length xs) (is : p ≡ get_or xs i p) (ps : List (Bor FlatTerm)) (left : List ℕ) (l : Leaving (references ps) left (drop i (references xs))) where

@@ -30,5 +30,4 @@ mod TwoLists
 mod KeptHeads
 mod TakingApart
 mod KnownForms
-mod LastSteps
 mod Commuting

@@ -36,7 +36,7 @@ module _ (d : Declarations) (fits : FitsKinds d) (f : OpId) (assoc : IsAssociati
   target_counts : (q : FlatTerm) → tally q (references goal.pieces.now) goal.left.now ≡ count q (parts d f t)
   target_counts q = ap (λ l. tally q (references l) goal.left.now) pieces_are ∙ ap (λ ns. tally q (references r.pieces.items) ns) left_is ∙ counted.counts q
 
-  pub sum_asks : (c : Values) → IsCandidate d c → SumHolds d goal c ↔ (inst d c p ≡ t)
+  sum_asks : (c : Values) → IsCandidate d c → SumHolds d goal c ↔ (inst d c p ≡ t)
   sum_asks c k =
       let iff = inst_parts_iff d c k.flat.settled f assoc p t pair.pattern pair.target in (
         λ h. iff.1 (λ q. sym (pattern_counts c q) ∙ ap (λ o. count q (summands_of d o c (references goal.patterns.now))) (sym op_is) ∙ h q ∙ target_counts q),

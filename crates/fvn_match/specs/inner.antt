@@ -10,5 +10,4 @@ pub mod Known
 pub mod Refusing
 pub mod Searching
 pub mod Heads
-pub mod Last
 pub mod Apart

@@ -3,7 +3,6 @@ ghost use Rattle.std.specs.Prelude.{◌≡◌, ◌+◌, true, false, [], ◌∷�
 ghost use Rattle.std.specs.List.{AllZip};
 ghost use Rattle.fvn_terms.specs.Signature.{axioms};
 ghost use Rattle.fvn_terms.specs.declared.declarations.Axioms.TheVariants.{Free, Comm};
-ghost use Rattle.fvn_terms.specs.Equality.{IsAssociative};
 ghost use Rattle.fvn_forms.specs.Flat.{fvar};
 ghost use Rattle.fvn_forms.specs.Canon.{inst};
 ghost use Rattle.fvn_flat.specs.Bindings.{value};
@@ -12,7 +11,6 @@ ghost use Rattle.fvn_match.specs.inner.Summands.{references};
 ghost use Rattle.fvn_match.specs.inner.Candidates.{IsCandidate};
 ghost use Rattle.fvn_match.specs.inner.Goals.{AllMake, IsPair, bindings_of, with_bindings, weight, weight_of};
 ghost use Rattle.fvn_match.specs.inner.Heads.{IsLost};
-ghost use Rattle.fvn_match.specs.inner.Last.{Leaves};
 ghost use Rattle.fvn_match.specs.inner.Refusing.{NeverMakes};
 ghost use Rattle.fvn_match.specs.inner.Searching.{IsCrossing};
 ghost use Rattle.fvn_match.specs.inner.Apart.{
@@ -28,7 +26,6 @@ ghost use Rattle.fvn_match.specs.inner.Apart.{
 use crate::goals::{Binding, Bound, Latest, newest};
 use crate::heads::heads_allow;
 use crate::instances::{are_bound, instance};
-use crate::last::{Last, last_of};
 use crate::pairing::has_sort_of;
 use crate::summands::is_headed;
 use crate::variables::is_closed;
@@ -77,6 +74,17 @@ fn is_free(sig: &Signature, f: OpId) -> bool
         return false;
     }
     true
+}
+
+// Whether the operator is commutative, and not associative.
+fn has_two_orders(sig: &Signature, f: OpId) -> bool
+    ensures { IsTrue result → axioms sig.now f ≡ Comm }
+{
+    let axioms = sig.axioms(f);
+    if axioms.is_sum() {
+        return false;
+    }
+    axioms.is_commutative()
 }
 
 // Whether heads tell that the term is no instance of the pattern, or the pattern has no variables and is another form.
@@ -193,30 +201,6 @@ impl<'a> Apart<'a> {
         }
     }
 
-    // What is left of a sum under the values from before and those that were found here.
-    fn last<'x>(
-        &'x self,
-        sig: &Signature,
-        bound: &'x Bound<'x>,
-        f: OpId,
-        p: &'a Flat,
-        t: &'a Flat,
-    ) -> Result<Last<'a>, NoMemory>
-        requires associative { IsAssociative (axioms sig.now f) }
-        requires head { head_of p.now ≡ Some f }
-        requires pair { IsPair sig.now p.now t.now }
-        requires fits { ApartFits sig.now (bindings_of bound.now) self.now }
-        ensures { IfOk result (Leaves sig.now
-            (values_with sig.now (bindings_of bound.now) self.now) p.now t.now) }
-    {
-        let values = Latest {
-            pairs: self.values.as_slice(),
-        };
-        let more = Bound::Several(values, &*bound);
-        let last = last_of(self.alloc, sig, &more, f, p, t)?;
-        Ok(last)
-    }
-
     // Whether the variable has another value, from before or found here.
     fn has_other(&self, bound: &Bound<'_>, x: Var, t: &Flat) -> bool
         ensures { IsTrue result →
@@ -330,14 +314,15 @@ impl<'a> Apart<'a> {
             Some(f) => f,
         };
         sig.recall_good();
-        let axioms = sig.axioms(f);
-        if axioms.is_sum() {
-            let left = self.take_sum(sig, bound, f, p, t)?;
-            return Ok(left);
-        }
-        if axioms.is_commutative() {
+        let two = has_two_orders(sig, f);
+        if two {
             let made = self.take_either(sig, bound, f, p, t)?;
             return Ok(made);
+        }
+        let free = is_free(sig, f);
+        if !free {
+            let kept = self.keep_open(sig, bound, p, t)?;
+            return Ok(kept);
         }
         let headed = is_headed(t, f);
         if !headed {
@@ -345,39 +330,6 @@ impl<'a> Apart<'a> {
         }
         let all = self.take_all(sig, bound, p.args(), t.args())?;
         Ok(all)
-    }
-
-    // A pair under an associative operator, without what is known of it: it is kept where two patterns are left, or one
-    // and several pieces.
-    #[cycle(apart)]
-    fn take_sum(
-        &mut self,
-        sig: &Signature,
-        bound: &Bound<'_>,
-        f: OpId,
-        p: &'a Flat,
-        t: &'a Flat,
-    ) -> Result<bool, NoMemory>
-        requires associative { IsAssociative (axioms sig.now f) }
-        requires head { head_of p.now ≡ Some f }
-        requires pair { IsPair sig.now p.now t.now }
-        requires fits { ApartFits sig.now (bindings_of bound.now) self.old }
-        ensures { IfOk result (TakesApart sig.now (bindings_of bound.now) self.old self.new
-            (λ c. inst sig.now c p.now ≡ t.now) (weight p.now + 2)) }
-    {
-        let last = self.last(sig, &*bound, f, p, t)?;
-        match last {
-            Last::Never => Ok(false),
-            Last::Made => Ok(true),
-            Last::One(q, u) => {
-                let can = self.take(sig, bound, q, u)?;
-                Ok(can)
-            }
-            Last::Several => {
-                let kept = self.keep_open(sig, bound, p, t)?;
-                Ok(kept)
-            }
-        }
     }
 
     // A pair under a commutative operator: it is kept where either order of the targets is left.

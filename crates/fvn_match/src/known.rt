@@ -75,27 +75,23 @@ fn copied(alloc: Global, ns: &[usize]) -> Result<Vec<usize>, NoMemory>
     Ok(all)
 }
 
-// The patterns that are not known, of all those of the sum, and what the others leave of the pieces, if they are among
-// these.
+// The patterns that are not known, and what the others leave of the pieces, if they are among these.
 pub(crate) fn without_known<'a>(
     alloc: Global,
     sig: &Signature,
-    goal: &SumGoal<'_>,
-    all: &[&'a Flat],
-    bound: &Bound<'_>,
+    goal: &SumGoal<'a>,
+    bound: &'a Bound<'a>,
 ) -> Result<Option<Open<'a>>, NoMemory>
     requires fits { SumFits sig.now goal.now }
-    requires all { all.now ≡ goal.now.patterns.now }
     requires bound { IsCandidate sig.now (value (bindings_of bound.now)) }
     ensures { IfOk result (LeavesOpen sig.now (bindings_of bound.now) goal.now) }
 {
     let mut patterns = Vec::new(alloc);
     let mut left = copied(alloc, goal.left)?;
-    for i in 0..all.len() {
-        let p = all[i];
+    for p in goal.patterns {
         let v = match known_value(p, bound) {
             None => {
-                patterns.push(p)?;
+                patterns.push(*p)?;
                 continue;
             }
             Some(v) => v,

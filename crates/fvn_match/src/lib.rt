@@ -8,7 +8,6 @@ mod goals;
 mod heads;
 mod instances;
 mod known;
-mod last;
 mod matching;
 mod pairing;
 mod refusing;

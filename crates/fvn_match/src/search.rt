@@ -377,7 +377,7 @@ impl Search<'_> {
             };
             return self.pick(&same, &*sums, &*bound);
         }
-        let open = match without_known(self.alloc, self.sig, &*goal, goal.patterns, &*bound)? {
+        let open = match without_known(self.alloc, self.sig, &*goal, &*bound)? {
             None => return Ok(None),
             Some(open) => open,
         };

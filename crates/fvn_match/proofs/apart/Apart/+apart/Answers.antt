@@ -1,19 +1,13 @@
 -- A pair is bound, kept, refused or taken apart; two pairs; one pair of two lists more.
 use Rattle.std.proofs.Common.{◌≡◌, ◌+◌, [], ◌∷◌, sym, ap, ◌∙◌, subst, arith}
 use Rattle.std.proofs.lemmas.Bool.{false≢true}
-use Rattle.fvn_terms.specs.Signature.{axioms}
-use Rattle.fvn_terms.specs.Equality.{is_sum}
-use Rattle.fvn_terms.proofs.AxiomWords.{sums_associate}
 use Rattle.fvn_forms.specs.Canon.{inst}
 use Rattle.fvn_match.specs.inner.Goals.{bindings_of, IsPair, weight, weight_of}
-use Rattle.fvn_match.specs.inner.Last.{IsLast, Leaves}
 use Rattle.fvn_match.specs.inner.Apart.{values_with, IsOnlyOrder, IsTakenApart, TakesApart}
-use Rattle.fvn_match.proofs.AxiomTests.{free_at, commutative_at}
 use Rattle.fvn_match.proofs.PairSteps.{variable_is, variable_or_head}
 use Rattle.fvn_match.proofs.PairFinding.{zip_long, two_is}
 use Rattle.fvn_match.proofs.Weights.{weight_args}
 use Rattle.fvn_match.proofs.TakingApart.{never_headed, pairs_of_free, taken_by_args, all_left, next_pair, next_weight, left_refused, one_less, none_left}
-use Rattle.fvn_match.proofs.LastSteps.{taken_last, taken_made}
 use Rattle.fvn_match.proofs.Commuting.{never_shared, both_patterns, both_targets, both_crossing, taken_in_order, first_of_two, second_of_two, first_refused, both_taken}
 use Rattle.fvn_match.proofs.apart.Apart.+apart.Goals as goal
 
@@ -28,23 +22,18 @@ take-returns-in-Some t c =
 pub take-returns-in-None : goal.take-returns-in-None
 take-returns-in-None t c = absurd (variable_or_head c.args.p.now (sym c.in_default.ensures) (sym c.in-None.ensures))
 
-pub take-take_sum-requires : goal.take-take_sum-requires
-take-take_sum-requires t c =
-    let sum = sums_associate (axioms c.args.sig.now c.in-Some-head.f) (ap is_sum (sym c.axioms-axioms.ensures) ∙ sym c.is_sum.ensures.exact ∙ c.if-is_sum.true) in
-    (omega arith, (sum, (sym c.in-Some-head.ensures, (c.requires.pair, c.requires.fits))))
-
-pub take-returns-then-is_sum : goal.take-returns-then-is_sum
-take-returns-then-is_sum t c = c.in_ok-left.ensures
-
 pub take-take_either-requires : goal.take-take_either-requires
-take-take_either-requires t c = (omega arith, (commutative_at c.args.sig.now c.in-Some-head.f c.axioms-axioms.result c.axioms-axioms.ensures (sym c.is_sum.ensures.exact ∙ c.if-is_sum.false) (sym c.is_commutative.ensures.exact ∙ c.if-is_commutative.true), (sym c.in-Some-head.ensures, (c.requires.pair, c.requires.fits))))
+take-take_either-requires t c = (omega arith, (c.has_two_orders-two.ensures c.if-two.true, (sym c.in-Some-head.ensures, (c.requires.pair, c.requires.fits))))
 
-pub take-returns-then-is_commutative : goal.take-returns-then-is_commutative
-take-returns-then-is_commutative t c = c.in_ok-made.ensures
+pub take-returns-then-two : goal.take-returns-then-two
+take-returns-then-two t c = c.in_ok-made.ensures
+
+pub take-returns-then-not-free : goal.take-returns-then-not-free
+take-returns-then-not-free t c = c.in_ok-kept.ensures
 
 pub take-returns-then-not-headed : goal.take-returns-then-not-headed
 take-returns-then-not-headed t c = λ v k is asked.
-    never_headed c.args.sig.now (bindings_of c.args.bound.now) c.recall_good.ensures.fits c.in-Some-head.f c.args.p.now c.args.t.now c.requires.pair (sym c.in-Some-head.ensures) (free_at c.args.sig.now c.in-Some-head.f c.axioms-axioms.result c.axioms-axioms.ensures (sym c.is_sum.ensures.exact ∙ c.if-is_sum.false) (sym c.is_commutative.ensures.exact ∙ c.if-is_commutative.false))
+    never_headed c.args.sig.now (bindings_of c.args.bound.now) c.recall_good.ensures.fits c.in-Some-head.f c.args.p.now c.args.t.now c.requires.pair (sym c.in-Some-head.ensures) (c.is_free-free.ensures c.if-not-free.false)
     (λ h. false≢true (sym c.if-not-headed.true ∙ c.is_headed-headed.ensures.1 h)) v k is
 
 pub take-take_all-requires : goal.take-take_all-requires
@@ -53,7 +42,7 @@ take-take_all-requires t c =
     let w = weight_args c.args.p.now c.in-Some-head.f (sym c.in-Some-head.ensures) in
     let v = ap weight_of c.args-2.ensures.exact in
     let pairs =
-    pairs_of_free d (bindings_of c.args.bound.now) c.recall_good.ensures.fits c.in-Some-head.f c.args.p.now c.args.t.now c.requires.pair (sym c.in-Some-head.ensures) (free_at c.args.sig.now c.in-Some-head.f c.axioms-axioms.result c.axioms-axioms.ensures (sym c.is_sum.ensures.exact ∙ c.if-is_sum.false) (sym c.is_commutative.ensures.exact ∙ c.if-is_commutative.false))
+    pairs_of_free d (bindings_of c.args.bound.now) c.recall_good.ensures.fits c.in-Some-head.f c.args.p.now c.args.t.now c.requires.pair (sym c.in-Some-head.ensures) (c.is_free-free.ensures c.if-not-free.false)
     (c.is_headed-headed.ensures.0 c.if-not-headed.false) c.args-2.result.now c.args-3.result.now c.args-2.ensures.exact c.args-3.ensures.exact in
     (omega (arith, w, v), (zip_long (IsPair d) c.args-2.result.now c.args-3.result.now pairs, (pairs, c.requires.fits)))
 
@@ -61,44 +50,11 @@ pub take-returns : goal.take-returns
 take-returns t c =
     let w = weight_args c.args.p.now c.in-Some-head.f (sym c.in-Some-head.ensures) in
     let v = ap weight_of c.args-2.ensures.exact in
-    taken_by_args c.args.sig.now (bindings_of c.args.bound.now) c.recall_good.ensures.fits c.in-Some-head.f c.args.p.now c.args.t.now c.requires.pair (sym c.in-Some-head.ensures) (free_at c.args.sig.now c.in-Some-head.f c.axioms-axioms.result c.axioms-axioms.ensures (sym c.is_sum.ensures.exact ∙ c.if-is_sum.false) (sym c.is_commutative.ensures.exact ∙ c.if-is_commutative.false))
+    taken_by_args c.args.sig.now (bindings_of c.args.bound.now) c.recall_good.ensures.fits c.in-Some-head.f c.args.p.now c.args.t.now c.requires.pair (sym c.in-Some-head.ensures) (c.is_free-free.ensures c.if-not-free.false)
     (c.is_headed-headed.ensures.0 c.if-not-headed.false) c.args-2.result.now c.args-3.result.now c.args-2.ensures.exact c.args-3.ensures.exact
     c.args.self.now c.take_all.new.self (weight c.args.p.now + 2) (omega (arith, w, v)) c.in_ok-all.all c.in_ok-all.ensures
 
--- a sum
-pub take_sum-returns-in-Never : goal.take_sum-returns-in-Never
-take_sum-returns-in-Never t c = λ v k is asked.
-    let d = c.args.sig.now in
-    let b = values_with d (bindings_of c.args.bound.now) c.args.self.now in
-    subst (Leaves d b c.args.p.now c.args.t.now) c.in-Never.is c.in_ok-last.ensures v k asked.0 is
-
-pub take_sum-returns-in-Made : goal.take_sum-returns-in-Made
-take_sum-returns-in-Made t c =
-    let d = c.args.sig.now in
-    let b = values_with d (bindings_of c.args.bound.now) c.args.self.now in
-    taken_made d (bindings_of c.args.bound.now) c.args.self.now c.args.self.now c.args.p.now c.args.t.now c.requires.fits (subst (Leaves d b c.args.p.now c.args.t.now) c.in-Made.is c.in_ok-last.ensures)
-
-pub take_sum-take-requires : goal.take_sum-take-requires
-take_sum-take-requires t c =
-    let d = c.args.sig.now in
-    let b = values_with d (bindings_of c.args.bound.now) c.args.self.now in
-    let one : IsLast d b c.args.p.now c.args.t.now c.in-One.q.now c.in-One.u.now = subst (Leaves d b c.args.p.now c.args.t.now) c.in-One.is c.in_ok-last.ensures in
-    (omega (arith, one.lighter), (one.pair, c.requires.fits))
-
-pub take_sum-returns-in-One : goal.take_sum-returns-in-One
-take_sum-returns-in-One t c =
-    let d = c.args.sig.now in
-    let b = values_with d (bindings_of c.args.bound.now) c.args.self.now in
-    taken_last d (bindings_of c.args.bound.now) c.args.self.now c.take.new.self c.args.p.now c.args.t.now c.in-One.q.now c.in-One.u.now (subst (Leaves d b c.args.p.now c.args.t.now) c.in-One.is c.in_ok-last.ensures)
-    c.in_ok-can.can c.in_ok-can.ensures
-
-pub take_sum-returns-in-Several : goal.take_sum-returns-in-Several
-take_sum-returns-in-Several t c = c.in_ok-kept.ensures
-
 -- a commutative pair
-pub take_either-returns-in-None : goal.take_either-returns-in-None
-take_either-returns-in-None t c = c.in_ok-kept.ensures
-
 pub take_either-returns-then-not-shared : goal.take_either-returns-then-not-shared
 take_either-returns-then-not-shared t c = λ v k is asked.
     never_shared c.args.sig.now (bindings_of c.args.bound.now) c.recall_good.ensures.fits c.args.f c.args.p.now c.args.t.now c.requires.pair c.requires.head c.requires.commutative
@@ -118,6 +74,9 @@ pub take_either-only_order-requires-clause-pairs : goal.take_either-only_order-r
 take_either-only_order-requires-clause-pairs t c =
     both_crossing c.args.sig.now (bindings_of c.args.bound.now) c.recall_good.ensures.fits c.args.f c.args.p.now c.args.t.now c.requires.pair c.requires.head c.requires.commutative
     (c.is_headed-shared.ensures.0 c.if-not-shared.false) c.args-ps.result.now c.args-ts.result.now c.args-ps.ensures.exact c.args-ts.ensures.exact
+
+pub take_either-returns-in-None : goal.take_either-returns-in-None
+take_either-returns-in-None t c = c.in_ok-kept.ensures
 
 pub take_either-take_both-requires : goal.take_either-take_both-requires
 take_either-take_both-requires t c =

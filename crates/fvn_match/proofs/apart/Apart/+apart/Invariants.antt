@@ -7,9 +7,6 @@ use Rattle.fvn_match.proofs.apart.Apart.+apart.Given as goal
 abbrev pub decreases-take : goal.decreases-take
 decreases-take l = 2 * weight l.p.now + 1
 
-abbrev pub decreases-take_sum : goal.decreases-take_sum
-decreases-take_sum l = 2 * weight l.p.now
-
 abbrev pub decreases-take_either : goal.decreases-take_either
 decreases-take_either l = 2 * weight l.p.now
 
