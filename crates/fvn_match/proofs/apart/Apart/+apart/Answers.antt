@@ -76,7 +76,7 @@ take_either-only_order-requires-clause-pairs t c =
     (c.is_headed-shared.ensures.0 c.if-not-shared.false) c.args-ps.result.now c.args-ts.result.now c.args-ps.ensures.exact c.args-ts.ensures.exact
 
 pub take_either-returns-in-None : goal.take_either-returns-in-None
-take_either-returns-in-None t c = c.in_ok-kept.ensures
+take_either-returns-in-None t c = c.in_ok-kept-in-None.ensures
 
 pub take_either-take_both-requires : goal.take_either-take_both-requires
 take_either-take_both-requires t c =
