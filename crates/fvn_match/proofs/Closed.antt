@@ -15,7 +15,7 @@ use Rattle.fvn_match.specs.inner.Heads.{IsLost}
 module _ (d : Declarations) where
   -- values that agree where variables stand in a term
   mutual
-    eval_agree : (s c : Var → FlatTerm) (t : Term) → ((x : Var) → Occurs x t → s x ≡ c x) → eval d s t ≡ eval d c t
+    pub eval_agree : (s c : Var → FlatTerm) (t : Term) → ((x : Var) → Occurs x t → s x ≡ c x) → eval d s t ≡ eval d c t
     eval_agree s c (var x) agree = agree x refl
     eval_agree s c (app f ts) agree = ap (build d f) (eval_all_agree s c ts agree)
 

@@ -29,4 +29,5 @@ mod Matchers
 mod TwoLists
 mod KeptHeads
 mod TakingApart
+mod KnownForms
 mod Commuting

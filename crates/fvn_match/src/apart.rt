@@ -23,8 +23,9 @@ ghost use Rattle.fvn_match.specs.inner.Apart.{
   IsOnlyOrder,
 };
 
-use crate::goals::{Binding, Bound, newest};
+use crate::goals::{Binding, Bound, Latest, newest};
 use crate::heads::heads_allow;
+use crate::instances::{are_bound, instance};
 use crate::pairing::has_sort_of;
 use crate::summands::is_headed;
 use crate::variables::is_closed;
@@ -36,6 +37,7 @@ use std::alloc::Global;
 // Variables with their values, and patterns of which some part is to be chosen, with their targets.
 #[derive(Drop)]
 pub(crate) struct Apart<'a> {
+    pub(crate) alloc: Global,
     pub(crate) values: Vec<Binding<'a>>,
     pub(crate) patterns: Vec<&'a Flat>,
     pub(crate) targets: Vec<&'a Flat>,
@@ -53,6 +55,7 @@ pub(crate) fn untouched<'a>(alloc: Global) -> Apart<'a>
     ensures { IsUntouched result }
 {
     Apart {
+        alloc,
         values: Vec::new(alloc),
         patterns: Vec::new(alloc),
         targets: Vec::new(alloc),
@@ -146,6 +149,56 @@ impl<'a> Apart<'a> {
         self.patterns.push(p)?;
         self.targets.push(t)?;
         Ok(())
+    }
+
+    // Whether the pattern makes the target, where each of its variables has a value.
+    fn made<'x>(
+        &'x self,
+        sig: &Signature,
+        bound: &'x Bound<'x>,
+        p: &Flat,
+        t: &Flat,
+    ) -> Result<Option<bool>, NoMemory>
+        requires pair { IsPair sig.now p.now t.now }
+        requires fits { ApartFits sig.now (bindings_of bound.now) self.now }
+        ensures { IfOk result (λ found. IfSome found (TakesApart sig.now
+            (bindings_of bound.now) self.now self.now
+            (λ c. inst sig.now c p.now ≡ t.now) (weight p.now + 2))) }
+    {
+        let values = Latest {
+            pairs: self.values.as_slice(),
+        };
+        let more = Bound::Several(values, &*bound);
+        let known = are_bound(&more, p);
+        if !known {
+            return Ok(None);
+        }
+        let u = instance(self.alloc, sig, &more, p)?;
+        let is = u.same(t);
+        Ok(Some(is))
+    }
+
+    // A pair of which some part is to be chosen, unless each variable has a value.
+    fn keep_open(
+        &mut self,
+        sig: &Signature,
+        bound: &Bound<'_>,
+        p: &'a Flat,
+        t: &'a Flat,
+    ) -> Result<bool, NoMemory>
+        requires pair { IsPair sig.now p.now t.now }
+        requires fits { ApartFits sig.now (bindings_of bound.now) self.old }
+        ensures { IfOk result (TakesApart sig.now (bindings_of bound.now) self.old self.new
+            (λ c. inst sig.now c p.now ≡ t.now) (weight p.now + 2)) }
+    {
+        let made = self.made(sig, &*bound, p, t)?;
+        match made {
+            Some(equal) => Ok(equal),
+            None => {
+                self.keep(sig, bound, p, t)?;
+                Ok(true)
+            }
+        }
     }
 
     // Whether the variable has another value, from before or found here.
@@ -268,8 +321,8 @@ impl<'a> Apart<'a> {
         }
         let free = is_free(sig, f);
         if !free {
-            self.keep(sig, bound, p, t)?;
-            return Ok(true);
+            let kept = self.keep_open(sig, bound, p, t)?;
+            return Ok(kept);
         }
         let headed = is_headed(t, f);
         if !headed {
@@ -305,8 +358,8 @@ impl<'a> Apart<'a> {
         let ts = t.args();
         let order = match self.only_order(sig, bound, ps, ts) {
             None => {
-                self.keep(sig, bound, p, t)?;
-                return Ok(true);
+                let kept = self.keep_open(sig, bound, p, t)?;
+                return Ok(kept);
             }
             Some(order) => order,
         };

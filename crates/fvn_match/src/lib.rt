@@ -6,6 +6,7 @@ mod apart;
 mod choices;
 mod goals;
 mod heads;
+mod instances;
 mod known;
 mod matching;
 mod pairing;

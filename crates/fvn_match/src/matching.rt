@@ -65,6 +65,7 @@ pub fn matches_both(
         alloc,
         sig,
         vars: vars.as_slice(),
+        depth: 0,
     };
     let second = Goals::Lists(pattern.1, target.1, &Goals::Done);
     let goals = Goals::Lists(pattern.0, target.0, &second);

@@ -36,13 +36,17 @@ use fvn_signature::Signature;
 use fvn_terms::{NoMemory, OpId, Var};
 use std::alloc::Global;
 
-// A search for the values of some variables.
+// A search for the values of some variables, so deep in choices.
 #[derive(Clone, Copy)]
 pub(crate) struct Search<'s> {
     pub(crate) alloc: Global,
     pub(crate) sig: &'s Signature,
     pub(crate) vars: &'s [Var],
+    pub(crate) depth: usize,
 }
+
+// So many pairs may be chosen for one within another; each takes stack.
+const DEEPEST: usize = 2_000;
 
 impl Search<'_> {
     // Pairs in their order, and when there are none left, sums.
@@ -173,7 +177,13 @@ impl Search<'_> {
             seen,
         };
         let later = Goals::Pairs(others, &*rest);
-        self.pair(ps[0], ts[0], &later, &*sums, &*bound)
+        let deeper = Search {
+            alloc: self.alloc,
+            sig: self.sig,
+            vars: self.vars,
+            depth: self.depth.saturating_add(1),
+        };
+        deeper.pair(ps[0], ts[0], &later, &*sums, &*bound)
     }
 
     // One pair, then other goals.
@@ -191,6 +201,9 @@ impl Search<'_> {
         requires state { StateFits self.now.sig.now rest.now sums.now bound.now }
         ensures { IfOk result (SearchesPair self.now p.now t.now rest.now sums.now bound.now) }
     {
+        if self.depth >= DEEPEST {
+            return Err(NoMemory);
+        }
         if let Some(x) = p.as_var() {
             return self.variable(x, &*t, &*rest, &*sums, &*bound);
         }
@@ -478,6 +491,12 @@ impl Search<'_> {
             seen: goal.seen,
         };
         let more = Sums::WithSum(smaller, &*sums);
-        self.pair(&*p, &whole, &Goals::Done, &more, &*bound)
+        let deeper = Search {
+            alloc: self.alloc,
+            sig: self.sig,
+            vars: self.vars,
+            depth: self.depth.saturating_add(1),
+        };
+        deeper.pair(&*p, &whole, &Goals::Done, &more, &*bound)
     }
 }

@@ -1,11 +1,13 @@
 -- Patterns of a sum whose values are known.
 use Rattle.std.specs.Prelude.{◌≡◌, ◌≤◌, ◌↔◌, length, sum as std_sum, Option, Some, None}
+use Rattle.fvn_terms.specs.declared.plain.Var.{Var}
 use Rattle.fvn_terms.specs.declared.declarations.Declarations.{Declarations}
-use Rattle.fvn_forms.specs.Flat.{FlatTerm}
+use Rattle.fvn_terms.specs.Substitution.{Occurs}
+use Rattle.fvn_forms.specs.Flat.{FlatTerm, plain}
 use Rattle.fvn_forms.specs.InOrder.{count}
 use Rattle.fvn_forms.specs.Canon.{inst}
 use Rattle.fvn_forms.specs.Settled.{Settled}
-use Rattle.fvn_flat.specs.Bindings.{Bindings}
+use Rattle.fvn_flat.specs.Bindings.{Bindings, bound}
 use Rattle.fvn_match.specs.inner.Tallies.{AddsUp}
 use Rattle.fvn_match.specs.inner.Summands.{references}
 use Rattle.fvn_match.specs.inner.Candidates.{Values, Agrees, IsCandidate}
@@ -16,6 +18,14 @@ use Rattle.fvn_match.specs.declared.known.Open.{Open}
 -- in each signature in which the pattern is flat, all values that agree make this form of it
 abbrev pub IsKnown : Bindings → FlatTerm → FlatTerm → Type 0
 IsKnown b p v = (d : Declarations) → Settled d p → (c : Values) → Agrees b c → inst d c p ≡ v
+
+-- each variable of the form is bound
+abbrev pub AreBound : Bindings → FlatTerm → Type 0
+AreBound b p = (x : Var) → Occurs x (plain p) → (v : FlatTerm) × (bound b x ≡ Some v)
+
+-- all values that agree make this form of the pattern
+abbrev pub MakesOnly : Declarations → Bindings → FlatTerm → FlatTerm → Type 0
+MakesOnly d b p v = (c : Values) → Agrees b c → inst d c p ≡ v
 
 -- what is said of a sum under the values that were bound
 module _ (d : Declarations) (b : Bindings) (goal : SumGoal) where

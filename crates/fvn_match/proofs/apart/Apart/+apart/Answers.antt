@@ -28,6 +28,9 @@ take-take_either-requires t c = (omega arith, (c.has_two_orders-two.ensures c.if
 pub take-returns-then-two : goal.take-returns-then-two
 take-returns-then-two t c = c.in_ok-made.ensures
 
+pub take-returns-then-not-free : goal.take-returns-then-not-free
+take-returns-then-not-free t c = c.in_ok-kept.ensures
+
 pub take-returns-then-not-headed : goal.take-returns-then-not-headed
 take-returns-then-not-headed t c = λ v k is asked.
     never_headed c.args.sig.now (bindings_of c.args.bound.now) c.recall_good.ensures.fits c.in-Some-head.f c.args.p.now c.args.t.now c.requires.pair (sym c.in-Some-head.ensures) (c.is_free-free.ensures c.if-not-free.false)
@@ -71,6 +74,9 @@ pub take_either-only_order-requires-clause-pairs : goal.take_either-only_order-r
 take_either-only_order-requires-clause-pairs t c =
     both_crossing c.args.sig.now (bindings_of c.args.bound.now) c.recall_good.ensures.fits c.args.f c.args.p.now c.args.t.now c.requires.pair c.requires.head c.requires.commutative
     (c.is_headed-shared.ensures.0 c.if-not-shared.false) c.args-ps.result.now c.args-ts.result.now c.args-ps.ensures.exact c.args-ts.ensures.exact
+
+pub take_either-returns-in-None : goal.take_either-returns-in-None
+take_either-returns-in-None t c = c.in_ok-kept-in-None.ensures
 
 pub take_either-take_both-requires : goal.take_either-take_both-requires
 take_either-take_both-requires t c =
