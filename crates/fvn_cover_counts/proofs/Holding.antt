@@ -7,7 +7,7 @@ use Rattle.fvn_cover_counts.specs.declared.blocks.Block.{Block}
 use Rattle.fvn_cover_counts.specs.declared.marks.Unkept.{Unkept}
 use Rattle.fvn_cover_counts.specs.declared.marks.Marks.{Marks}
 use Rattle.fvn_cover_counts.specs.Marks.{IsBelow, NeverMatchMarked, RefuseEachOther}
-use Rattle.fvn_cover_counts.specs.inner.Blocks.{IsBetween, IsBlock, held}
+use Rattle.fvn_cover_counts.specs.inner.Blocks.{IsBetween, HoldsIn, held}
 use Rattle.fvn_cover_counts.proofs.MarkRefusals.{never_if, below_above}
 
 -- one more of a list
@@ -51,9 +51,9 @@ module _ (out : Unkept) (low high m : Marks) (e : low.out ≡ out) (f : m.out �
   all_refused ms h = All-weaker (IsBetween low high) (RefuseEachOther out m) refused_between ms h
 
 -- what holds of all marks of each block
-pub held_all : (P : Marks → Type 0) (bs : List Block) → All (λ b. All P b.marks.items) bs → All P (held bs)
+pub held_all : (P : Marks → Type 0) (bs : List Block) → All (HoldsIn P) bs → All P (held bs)
 held_all P [] h = All-nil P
-held_all P (b ∷ bs) h = All-append P b.marks.items (held bs) (All-head (λ c. All P c.marks.items) b bs h) (held_all P bs (All-tail (λ c. All P c.marks.items) b bs h))
+held_all P (b ∷ bs) h = All-append P b.marks.items (held bs) (All-head (HoldsIn P) b bs h) (held_all P bs (All-tail (HoldsIn P) b bs h))
 
 -- and of the marks of the last one
 pub held_whole : (P : Marks → Type 0) (full slice : List Block) (last : Block) (whole : List Marks) → slice ≡ full → held full ++ last.marks.items ≡ whole → All P (held slice) → All P last.marks.items → All P whole

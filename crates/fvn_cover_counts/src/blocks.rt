@@ -1,8 +1,7 @@
 //! Lists of marks in blocks: what the marks of a block have in common often refuses all of them at once.
-ghost use Rattle.std.specs.Prelude.{◌≡◌, ◌++◌, [], ◌∷◌, List, IsTrue, IfOk, All};
-ghost use Rattle.fvn_cover_counts.specs.declared.marks.Marks.{Marks};
+ghost use Rattle.std.specs.Prelude.{◌≡◌, ◌++◌, [], ◌∷◌, IsTrue, IfOk, All};
 ghost use Rattle.fvn_cover_counts.specs.Marks.{RefuseEachOther};
-ghost use Rattle.fvn_cover_counts.specs.inner.Blocks.{IsBetween, IsBlock, held};
+ghost use Rattle.fvn_cover_counts.specs.inner.Blocks.{IsBlock, held};
 
 use crate::marks::{Marks, Unkept};
 use fvn_terms::NoMemory;
@@ -26,10 +25,10 @@ impl Block {
         ensures block { IsBlock result }
         ensures marks { result.marks.items ≡ [] }
     {
-        let none = Marks::none();
+        let m = Marks::none();
         Block {
-            low: none,
-            high: none,
+            low: m,
+            high: m,
             marks: Vec::new(alloc),
         }
     }
@@ -137,7 +136,7 @@ fn with_last(
     requires full { All IsBlock full.items }
     requires last { IsBlock last }
     ensures blocks { IfOk result (λ r. All IsBlock r.0.items × IsBlock r.1) }
-    ensures held { IfOk result (λ r. held r.0.items ++ r.1.marks.items
+    ensures marks { IfOk result (λ r. held r.0.items ++ r.1.marks.items
         ≡ (held full.items ++ last.marks.items) ++ m ∷ []) }
 {
     if last.takes(&m) {

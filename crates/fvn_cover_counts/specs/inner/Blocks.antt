@@ -10,9 +10,13 @@ pub record IsBetween (low high m : Marks) : Type 0 where
   pub above : IsBelow low m
   pub below : IsBelow m high
 
+-- P holds of all marks of the block
+abbrev pub HoldsIn : (Marks → Type 0) → Block → Type 0
+HoldsIn P b = All P b.marks.items
+
 -- all marks of the block are between its lowest and its highest
 abbrev pub IsBlock : Block → Type 0
-IsBlock b = All (IsBetween b.low b.high) b.marks.items
+IsBlock b = HoldsIn (IsBetween b.low b.high) b
 
 -- the marks of all blocks, in order
 abbrev pub held : List Block → List Marks

@@ -15,11 +15,11 @@ longer-requires-clause-block c = c.requires.last
 pub returns-then-takes : goal.returns-then-takes
 returns-then-takes c = record {
   blocks = (c.requires.full, c.in_ok-more.ensures.block);
-  held = held_longer c.args.full.items c.args.last c.args.m c.in_ok-more.more c.in_ok-more.ensures.marks;
+  marks = held_longer c.args.full.items c.args.last c.args.m c.in_ok-more.more c.in_ok-more.ensures.marks;
 }
 
 pub returns : goal.returns
 returns c = record {
   blocks = (subst (All IsBlock) (sym c.in_ok-push.ensures.items) (All-push IsBlock c.args.full.items c.args.last c.requires.full c.requires.last), c.in_ok-one.ensures.block);
-  held = held_behind c.args.full.items c.args.last c.args.m _ c.in_ok-one.one c.in_ok-push.ensures.items c.in_ok-one.ensures.marks;
+  marks = held_behind c.args.full.items c.args.last c.args.m _ c.in_ok-one.one c.in_ok-push.ensures.items c.in_ok-one.ensures.marks;
 }

@@ -12,4 +12,4 @@ pub invariant_of-result : goal.invariant_of-result
 invariant_of-result c = c.in_ok-both.ensures.blocks
 
 pub returns : goal.returns
-returns c = rw c.self.view_is at c.in_ok-both.ensures.held
+returns c = rw c.self.view_is at c.in_ok-both.ensures.marks
