@@ -7,8 +7,7 @@ ghost use Rattle.fvn_axunify.specs.inner.Members.{IsMember, AreKept, IsWith, IsW
 use crate::task::Task;
 use fvn_base::Seq;
 use fvn_cover::{
-    Kept, Variant, covering_of_unifiers_is_instance, covering_of_variants_is_a_preorder,
-    with_member,
+    Kept, Sieve, Variant, covering_of_unifiers_is_instance, covering_of_variants_is_a_preorder,
 };
 use fvn_flat::Subst;
 use fvn_refine::{refine, refinements_cover};
@@ -16,15 +15,15 @@ use fvn_terms::NoMemory;
 use std::alloc::Global;
 
 // The list with one more unifier, if it is no instance of a member, and then without the instances of it.
-fn with_unifier(task: &Task, kept: Vec<Kept>, subst: Subst) -> Result<Vec<Kept>, NoMemory>
+fn with_unifier(task: &Task, kept: Sieve, subst: Subst) -> Result<Sieve, NoMemory>
     requires asked { IsAsked task.now.sig.now task.now.problem.now task.now.vars.now
         task.now.first }
     requires kept { AreKept task.now.sig.now task.now.problem.now task.now.vars.now task.now.first
-        kept.items }
+        kept }
     requires member { IsMember task.now.sig.now task.now.problem.now task.now.first subst }
     ensures { IfOk result (λ after.
-        IsWith task.now.sig.now task.now.problem.now task.now.vars.now task.now.first kept.items
-        subst after.items) }
+        IsWith task.now.sig.now task.now.problem.now task.now.vars.now task.now.first kept
+        subst after) }
 {
     covering_of_variants_is_a_preorder();
     covering_of_unifiers_is_instance();
@@ -36,22 +35,22 @@ fn with_unifier(task: &Task, kept: Vec<Kept>, subst: Subst) -> Result<Vec<Kept>,
         vars: Seq::from_vec(vars),
     };
     let v = Kept::new(task.alloc, task.sig, variant)?;
-    let after = with_member(task.alloc, task.sig, kept, v)?;
+    let after = kept.with_member(task.alloc, task.sig, v)?;
     Ok(after)
 }
 
 // The list with more unifiers, as long as it has fewer members than the limit.
-fn with_each(task: &Task, kept: Vec<Kept>, more: Vec<Subst>) -> Result<Vec<Kept>, NoMemory>
+fn with_each(task: &Task, kept: Sieve, more: Vec<Subst>) -> Result<Sieve, NoMemory>
     requires asked { IsAsked task.now.sig.now task.now.problem.now task.now.vars.now
         task.now.first }
     requires kept { AreKept task.now.sig.now task.now.problem.now task.now.vars.now task.now.first
-        kept.items }
-    requires few { length kept.items ≤ task.now.limits.unifiers }
+        kept }
+    requires few { length kept ≤ task.now.limits.unifiers }
     requires members { All (IsMember task.now.sig.now task.now.problem.now task.now.first)
         more.items }
     ensures { IfOk result (λ after.
         IsWithEach task.now.sig.now task.now.problem.now task.now.vars.now task.now.first
-        task.now.limits.unifiers kept.items more.items after.items) }
+        task.now.limits.unifiers kept more.items after) }
 {
     let most = task.limits.unifiers as usize;
     let mut all = kept;
@@ -65,21 +64,17 @@ fn with_each(task: &Task, kept: Vec<Kept>, more: Vec<Subst>) -> Result<Vec<Kept>
 }
 
 // The list with all that a unifier on kinds comes to with sorts, as long as it has fewer members than the limit.
-pub(crate) fn with_refinements(
-    task: &Task,
-    kept: Vec<Kept>,
-    g: &Subst,
-) -> Result<Vec<Kept>, NoMemory>
+pub(crate) fn with_refinements(task: &Task, kept: Sieve, g: &Subst) -> Result<Sieve, NoMemory>
     requires asked { IsAsked task.now.sig.now task.now.problem.now task.now.vars.now
         task.now.first }
     requires kept { AreKept task.now.sig.now task.now.problem.now task.now.vars.now task.now.first
-        kept.items }
-    requires few { length kept.items ≤ task.now.limits.unifiers }
+        kept }
+    requires few { length kept ≤ task.now.limits.unifiers }
     requires given { IsGivenOnKinds task.now.sig.now task.now.problem.now task.now.first
         task.now.limits.size g.now }
     ensures { IfOk result (λ after.
         IsWithAll task.now.sig.now task.now.problem.now task.now.vars.now task.now.first
-        task.now.limits.unifiers kept.items g.now after.items) }
+        task.now.limits.unifiers kept g.now after) }
 {
     refinements_cover();
     let more = refine(task.alloc, task.sig, g, task.vars)?;
@@ -87,8 +82,8 @@ pub(crate) fn with_refinements(
     Ok(after)
 }
 
-// The unifiers alone.
-pub(crate) fn unifiers(alloc: Global, kept: Vec<Kept>) -> Result<Vec<Subst>, NoMemory>
+// The unifiers alone, of a list of variants.
+fn unifiers_of(alloc: Global, kept: Vec<Kept>) -> Result<Vec<Subst>, NoMemory>
     ensures { IfOk result (λ all. all.items ≡ map (λ v. v.subst) kept.items) }
 {
     let mut all = Vec::new(alloc);
@@ -96,5 +91,14 @@ pub(crate) fn unifiers(alloc: Global, kept: Vec<Kept>) -> Result<Vec<Subst>, NoM
         let variant = v.into_variant();
         all.push(variant.subst)?;
     }
+    Ok(all)
+}
+
+// The unifiers alone.
+pub(crate) fn unifiers(alloc: Global, kept: Sieve) -> Result<Vec<Subst>, NoMemory>
+    ensures { IfOk result (λ all. all.items ≡ map (λ v. v.subst) kept) }
+{
+    let list = kept.into_list();
+    let all = unifiers_of(alloc, list)?;
     Ok(all)
 }

@@ -14,14 +14,14 @@ use crate::members::with_refinements;
 use crate::next::{Next, step};
 use crate::task::Task;
 use fvn_combine::Combiner;
-use fvn_cover::Kept;
+use fvn_cover::Sieve;
 use fvn_flat::SolveEnd;
 use fvn_terms::NoMemory;
 
 // Unifiers, and why there are no more.
 #[derive(Drop)]
 pub(crate) struct Found {
-    pub(crate) kept: Vec<Kept>,
+    pub(crate) kept: Sieve,
     pub(crate) end: SolveEnd,
 }
 
@@ -36,15 +36,15 @@ fn run_through(task: &Task, combiner: &mut Combiner) -> Result<Found, NoMemory>
         IsUnifier task.now.sig.now (problem_of task.now.problem.now) u → IsToCome combiner.old u }
     ensures found { IfOk result (λ f.
         IsFound task.now.sig.now task.now.problem.now task.now.vars.now task.now.first
-        task.now.limits.unifiers task.now.limits.size f.kept.items f.end) }
+        task.now.limits.unifiers task.now.limits.size f.kept f.end) }
     // What the combiner gave is kept.
     ensures run { IfOk result (λ f.
         IsRunToEnd task.now.sig.now task.now.problem.now
-        (IsReached task.now.sig.now task.now.problem.now task.now.vars.now f.kept.items)
+        (IsReached task.now.sig.now task.now.problem.now task.now.vars.now f.kept)
         combiner.old combiner.new f.end) }
 {
     let most = task.limits.unifiers as usize;
-    let mut kept = Vec::new(task.alloc);
+    let mut kept = Sieve::new(task.alloc);
     'next: loop {
         match step(combiner)? {
             Next::End(end) => return Ok(Found { kept, end }),
@@ -70,11 +70,11 @@ pub(crate) fn search(task: &Task) -> Result<Found, NoMemory>
     requires small { symbols_of_pairs task.now.problem.now.pairs ≤ task.now.limits.size }
     ensures found { IfOk result (λ f.
         IsFound task.now.sig.now task.now.problem.now task.now.vars.now task.now.first
-        task.now.limits.unifiers task.now.limits.size f.kept.items f.end) }
+        task.now.limits.unifiers task.now.limits.size f.kept f.end) }
     // At every end what the search gave is kept.
     ensures searched { IfOk result (λ f.
         IsSearched task.now.sig.now task.now.problem.now
-        (IsReached task.now.sig.now task.now.problem.now task.now.vars.now f.kept.items)
+        (IsReached task.now.sig.now task.now.problem.now task.now.vars.now f.kept)
         task.now.first task.now.limits.size f.end) }
 {
     let mut combiner = Combiner::for_sorts(

@@ -69,10 +69,10 @@ fn told(task: &Task, found: Found) -> Result<Solved, NoMemory>
     requires asked { IsAsked task.now.sig.now task.now.problem.now task.now.vars.now
         task.now.first }
     requires found { IsFound task.now.sig.now task.now.problem.now task.now.vars.now task.now.first
-        task.now.limits.unifiers task.now.limits.size found.kept.items found.end }
+        task.now.limits.unifiers task.now.limits.size found.kept found.end }
     requires small { symbols_of_pairs task.now.problem.now.pairs ≤ task.now.limits.size }
     requires searched { IsSearched task.now.sig.now task.now.problem.now
-        (IsReached task.now.sig.now task.now.problem.now task.now.vars.now found.kept.items)
+        (IsReached task.now.sig.now task.now.problem.now task.now.vars.now found.kept)
         task.now.first task.now.limits.size found.end }
     ensures solved { IfOk result (IsSolvedAs task.now.sig.now task.now.problem.now task.now.first
         task.now.limits.unifiers task.now.limits.size) }

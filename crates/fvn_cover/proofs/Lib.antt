@@ -7,3 +7,4 @@ mod Prunings
 mod PieceFacts
 pub mod Ranges
 mod Reaching
+mod Sieving

@@ -1,3 +1,4 @@
 -- What mirrors the code.
 pub mod Profiled
 pub mod Reach
+pub mod Sieved

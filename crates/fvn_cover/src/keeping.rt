@@ -152,6 +152,13 @@ impl Kept {
         Ok(r)
     }
 
+    // The marks.
+    pub(crate) fn own_marks(&self) -> Marks
+        ensures { IsMarked self.now result }
+    {
+        self.marks
+    }
+
     // Whether the marks, and the sorts of values that are variables, leave it open that this one covers the other.
     #[inline(always)]
     pub(crate) fn may_cover(&self, sig: &Signature, out: Unkept, other: &Kept) -> bool

@@ -10,6 +10,7 @@ mod marking;
 mod pieces;
 mod pruning;
 mod reach;
+mod sieve;
 mod values;
 mod variant;
 
@@ -22,4 +23,5 @@ pub use laws::{
 pub use marking::{WORKERS, marks};
 pub use pieces::{piece_count, piece_start};
 pub use pruning::{prune, prune_folded, prune_kept, with_member};
+pub use sieve::Sieve;
 pub use variant::{Variant, all_shared};

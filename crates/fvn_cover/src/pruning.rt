@@ -34,11 +34,11 @@ pub(crate) fn is_covered(
 
 // What one look through a list tells of a variant.
 #[derive(Clone, Copy)]
-struct Look {
+pub(crate) struct Look {
     // Some member of the list covers the variant.
-    covered: bool,
+    pub(crate) covered: bool,
     // Marks leave it open that the variant covers a member of the list.
-    open: bool,
+    pub(crate) open: bool,
 }
 
 // Whether it was open so far, or is now.
@@ -50,7 +50,12 @@ fn is_open(before: bool, now: bool) -> bool
 
 // One look through the list: the marks of each member are compared both ways, so that a list of which no member is
 // covered is gone through once, where all marks refuse it.
-fn looked_through(alloc: Global, sig: &Signature, list: &[Kept], v: &Kept) -> Result<Look, NoMemory>
+pub(crate) fn looked_through(
+    alloc: Global,
+    sig: &Signature,
+    list: &[Kept],
+    v: &Kept,
+) -> Result<Look, NoMemory>
     requires flat { IsFlatVariant sig.now v.now × All (IsFlatVariant sig.now) list.now }
     requires alike { All (λ k. AreAlike k v.now) list.now }
     ensures covered { IfOk result (λ l. IsTrue l.covered ↔ IsCoveredBySome sig.now list.now v.now) }
@@ -133,7 +138,7 @@ fn uncovered(
 }
 
 // The list with the variant, which none of its members covers, and without those that it covers.
-fn with_uncovered(
+pub(crate) fn with_uncovered(
     alloc: Global,
     sig: &Signature,
     list: Vec<Kept>,

@@ -13,3 +13,4 @@ mod WordBits
 mod SetBits
 mod MarkFacts
 mod MarkRefusals
+mod Holding

@@ -13,7 +13,7 @@ use Rattle.fvn_cover_counts.specs.declared.marks.Marks.{Marks}
 use Rattle.fvn_cover_counts.specs.Weights.{IsKept}
 use Rattle.fvn_cover_counts.specs.Places.{column}
 use Rattle.fvn_cover_counts.specs.Profiles.{CountsAllow}
-use Rattle.fvn_cover_counts.specs.Marks.{Has, AreUnkept, KeepsOperator, HasVariableAlone, AreMarks, IsWithin, MarksAllow, NeverMatchMarked}
+use Rattle.fvn_cover_counts.specs.Marks.{Has, AreUnkept, KeepsOperator, HasVariableAlone, AreMarks, IsWithin, IsBelow, MarksAllow, NeverMatchMarked}
 use Rattle.fvn_cover_counts.specs.inner.Bits.{operator_bit}
 use Rattle.fvn_cover_counts.proofs.Occurring.{occurs_places, places_occur}
 use Rattle.fvn_cover_counts.proofs.Refusals.{Makes, matched_allow}
@@ -79,6 +79,14 @@ module _ (out : Unkept) (m n : Marks) where
 
   pub words_refuse : (r : Bool) → IsTrue r ↔ (IsWithin m.up n.up × IsWithin n.down m.down) → (m.out ≡ out) × (n.out ≡ out) → r ≡ false → NeverMatchMarked out m n
   words_refuse r k e refused d ts us unkept a c s matcher = false≢true (sym refused ∙ k.1 (matched_within d ts us unkept a c e.0 e.1 s matcher.1))
+
+  -- marks that are not below others refuse what has those
+  pub never_if : m.out ≡ out → n.out ≡ out → (IsBelow m n → ⊥) → NeverMatchMarked out m n
+  never_if e f never d ts us unkept a c s matcher = never (matched_within d ts us unkept a c e f s matcher.1)
+
+-- what is below is below what is above
+pub below_above : (l m n : Marks) → IsBelow l m → IsBelow m n → IsBelow l n
+below_above l m n h k = (λ b x. k.0 b (h.0 b x), λ b x. h.1 b (k.1 b x))
 
 -- two words of operators
 pub same_unkept : (a b : Unkept) → IsTrue (nat_eq a.bits b.bits) ↔ (a ≡ b)

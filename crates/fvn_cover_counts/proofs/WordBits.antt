@@ -22,6 +22,12 @@ min_first zero y l h = omega arith
 min_first (suc zero) y l h = let e = h refl in omega (arith, e)
 min_first (suc (suc x)) y l h = absurd (omega (arith, l))
 
+min_two : (x y : ℕ) → min x y ≡ 1 → x < 2 → x ≡ 1
+min_two x y e l = omega (arith, e, l)
+
+max_two : (x y : ℕ) → y < 2 → x ≡ 1 → max x y ≡ 1
+max_two x y l e = omega (arith, l, e)
+
 no_bit : (n : ℕ) → n ≡ 0 → n ≡ 1 → ⊥
 no_bit n z o = omega (arith, z, o)
 
@@ -102,3 +108,17 @@ within_words v w = (forth, back)
 
     back : IsWithin v w → IsTrue (nat_eq (bit_and v w) v)
     back h = eq-eqb (bit_and v w) v (same_from_bits (bit_and v w) v (λ i. bit_at_and v w i ∙ min_first (bit_at v i) (bit_at w i) (bit_at-lt v i) (h i)))
+
+-- what both words have is in each of them
+pub and_within : (v w : ℕ) → IsWithin (bit_and v w) v × IsWithin (bit_and v w) w
+and_within v w = (
+  λ b h. min_two (bit_at v b) (bit_at w b) (sym (bit_at_and v w b) ∙ h) (bit_at-lt v b),
+  λ b h. min_one (bit_at v b) (bit_at w b) (sym (bit_at_and v w b) ∙ h) (bit_at-lt w b),
+)
+
+-- what one of them has is in both together
+pub or_within : (v w : ℕ) → IsWithin v (bit_or v w) × IsWithin w (bit_or v w)
+or_within v w = (
+  λ b h. bit_at_or v w b ∙ max_two (bit_at v b) (bit_at w b) (bit_at-lt w b) h,
+  λ b h. bit_at_or v w b ∙ max_one (bit_at v b) (bit_at w b) (bit_at-lt v b) h,
+)

@@ -57,6 +57,10 @@ pub record AreMarks (ts : List FlatTerm) (m : Marks) : Type 0 where
 abbrev pub IsWithin : ℕ → ℕ → Type 0
 IsWithin v w = (b : ℕ) → Has v b → Has w b
 
+-- the second have what the first have and an instance keeps, and the first what the second have and it cannot gain
+abbrev pub IsBelow : Marks → Marks → Type 0
+IsBelow m n = IsWithin m.up n.up × IsWithin n.down m.down
+
 module _ (out : Unkept) (m n : Marks) where
   -- What marks ask where forms with the first are to match forms with the second, if both leave out the same operators:
   -- the second have what the first have and an instance keeps, and the first what the second have and it cannot gain.
@@ -66,3 +70,7 @@ module _ (out : Unkept) (m n : Marks) where
   -- where just the operators that the axioms keep are counted, forms with the second marks are matched by none with the first
   abbrev pub NeverMatchMarked : Type 0
   NeverMatchMarked = (d : Declarations) (ts us : List FlatTerm) → AreUnkept d out → AreMarks ts m → AreMarks us n → HasNoMatcher d ts us
+
+-- forms with either of these marks are matched by none with the other
+abbrev pub RefuseEachOther : Unkept → Marks → Marks → Type 0
+RefuseEachOther out m n = NeverMatchMarked out m n × NeverMatchMarked out n m

@@ -3,3 +3,4 @@ pub mod Heads
 pub mod Rows
 pub mod Comparing
 pub mod Bits
+pub mod Blocks

@@ -2,6 +2,7 @@
 #![tactic(auto)]
 
 mod bits;
+mod blocks;
 mod comparing;
 mod kept;
 mod marks;
@@ -10,5 +11,6 @@ mod rows;
 mod symbols;
 mod walking;
 
+pub use blocks::MarkBlocks;
 pub use marks::{Marks, Unkept};
 pub use profile::Profile;

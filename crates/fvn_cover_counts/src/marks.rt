@@ -2,7 +2,7 @@
 ghost use Rattle.std.specs.Prelude.{◌≡◌, ◌↔◌, ◌<◌, false, length, List, IsTrue};
 ghost use Rattle.fvn_forms.specs.Flat.{FlatTerm};
 ghost use Rattle.fvn_cover_counts.specs.Profiles.{IsProfile};
-ghost use Rattle.fvn_cover_counts.specs.Marks.{AreUnkept, AreMarks, IsWithin, MarksAllow, NeverMatchMarked};
+ghost use Rattle.fvn_cover_counts.specs.Marks.{AreUnkept, AreMarks, IsWithin, IsBelow, MarksAllow, NeverMatchMarked};
 
 use crate::bits::{identities_word, operators_word, variables_word};
 use crate::profile::Profile;
@@ -47,7 +47,32 @@ fn is_within(v: u64, w: u64) -> bool
     v & w == v
 }
 
+// The bits that both words have.
+fn common_bits(v: u64, w: u64) -> u64
+    ensures first { IsWithin result v }
+    ensures second { IsWithin result w }
+{
+    v & w
+}
+
+// The bits that one of the words has.
+fn joined_bits(v: u64, w: u64) -> u64
+    ensures first { IsWithin v result }
+    ensures second { IsWithin w result }
+{
+    v | w
+}
+
 impl Marks {
+    // Marks of which none is set.
+    pub(crate) fn none() -> Marks {
+        Marks {
+            out: Unkept { bits: 0 },
+            up: 0,
+            down: 0,
+        }
+    }
+
     /// The marks of so many terms of which the profile was counted, without these operators.
     pub fn of(out: Unkept, profile: &Profile, count: usize) -> Marks
         ensures marks { (ts : List FlatTerm) → IsProfile ts profile.now → length ts ≡ count
@@ -62,19 +87,50 @@ impl Marks {
     }
 
     // Whether both were made without just these operators.
-    fn are_without(&self, out: Unkept, other: &Marks) -> bool
+    pub(crate) fn are_without(&self, out: Unkept, other: &Marks) -> bool
         ensures { IsTrue result ↔ ((self.now.out ≡ out) × (other.now.out ≡ out)) }
     {
         is_same(self.out, out) && is_same(other.out, out)
     }
 
     // Whether the other has what this one has and an instance keeps, and this one what it cannot gain.
-    fn are_within(&self, other: &Marks) -> bool
-        ensures { IsTrue result
-            ↔ (IsWithin self.now.up other.now.up × IsWithin other.now.down self.now.down) }
+    pub(crate) fn are_within(&self, other: &Marks) -> bool
+        ensures { IsTrue result ↔ IsBelow self.now other.now }
     {
         // Both words are compared before it is asked what either tells, since which of them refuses cannot be foreseen.
         is_within(self.up, other.up) & is_within(other.down, self.down)
+    }
+
+    // Whether both were made without the same operators.
+    pub(crate) fn is_like(&self, other: &Marks) -> bool
+        ensures { IsTrue result ↔ (self.now.out ≡ other.now.out) }
+    {
+        is_same(self.out, other.out)
+    }
+
+    // Marks below both.
+    pub(crate) fn lower_of(&self, other: &Marks) -> Marks
+        ensures out { result.out ≡ self.now.out }
+        ensures first { IsBelow result self.now }
+        ensures second { IsBelow result other.now }
+    {
+        Marks {
+            out: self.out,
+            up: common_bits(self.up, other.up),
+            down: joined_bits(self.down, other.down),
+        }
+    }
+
+    // Marks above both.
+    pub(crate) fn upper_of(&self, other: &Marks) -> Marks
+        ensures first { IsBelow self.now result }
+        ensures second { IsBelow other.now result }
+    {
+        Marks {
+            out: self.out,
+            up: joined_bits(self.up, other.up),
+            down: common_bits(self.down, other.down),
+        }
     }
 
     /// Whether the marks allow that some substitution makes the terms of the other from those of these.

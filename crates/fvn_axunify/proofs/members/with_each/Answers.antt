@@ -29,8 +29,8 @@ loop-r-preserved c =
       are = w.are;
       grows = λ u r. w.grows u (c.loop-r.invariant.grows u r);
       few = omega (arith, w.more, c.if-most-len.false, c.len.ensures);
-      each = All-push (λ (s : Bindings). HasInstancesOf d given vars s c.in_ok-all.all.items) c.loop-r.yielded c.in-Some.r
-          (All-weaker (λ (s : Bindings). HasInstancesOf d given vars s c.loop-r.all.items) (λ (s : Bindings). HasInstancesOf d given vars s c.in_ok-all.all.items) (λ s h u i. w.grows u (h u i)) c.loop-r.yielded c.loop-r.invariant.each)
+      each = All-push (λ (s : Bindings). HasInstancesOf d given vars s c.in_ok-all.all) c.loop-r.yielded c.in-Some.r
+          (All-weaker (λ (s : Bindings). HasInstancesOf d given vars s c.loop-r.all) (λ (s : Bindings). HasInstancesOf d given vars s c.in_ok-all.all) (λ s h u i. w.grows u (h u i)) c.loop-r.yielded c.loop-r.invariant.each)
           w.reached;
     }
 
@@ -45,5 +45,5 @@ returns c =
       are = c.loop-r.invariant.are;
       grows = c.loop-r.invariant.grows;
       few = c.loop-r.invariant.few;
-      each = λ less. subst (All (λ (s : Bindings). HasInstancesOf c.args.task.now.sig.now c.args.task.now.problem.now c.args.task.now.vars.now s c.loop-r.all.items)) whole c.loop-r.invariant.each;
+      each = λ less. subst (All (λ (s : Bindings). HasInstancesOf c.args.task.now.sig.now c.args.task.now.problem.now c.args.task.now.vars.now s c.loop-r.all)) whole c.loop-r.invariant.each;
     }

@@ -6,8 +6,8 @@ use Rattle.fvn_axunify.proofs.members.with_each.Given as goal
 
 abbrev pub invariant-loop-r : goal.invariant-loop-r
 invariant-loop-r l = record {
-  are : AreKept l.task.sig.now l.task.problem.now l.task.vars.now l.task.first l.all.items;
-  grows : Grows l.task.sig.now l.task.problem.now l.task.vars.now l.fn.kept.items l.all.items;
-  few : length l.all.items ≤ l.task.limits.unifiers;
-  each : All (λ s. HasInstancesOf l.task.sig.now l.task.problem.now l.task.vars.now s l.all.items) l.yielded;
+  are : AreKept l.task.sig.now l.task.problem.now l.task.vars.now l.task.first l.all;
+  grows : Grows l.task.sig.now l.task.problem.now l.task.vars.now l.fn.kept l.all;
+  few : length l.all ≤ l.task.limits.unifiers;
+  each : All (λ s. HasInstancesOf l.task.sig.now l.task.problem.now l.task.vars.now s l.all) l.yielded;
 }

@@ -15,4 +15,4 @@ with_each-requires-clause-members c =
 pub returns : goal.returns
 returns c =
     with_refined c.args.task.now.sig.now c.args.task.now.problem.now c.args.task.now.vars.now c.args.task.now.first c.args.task.now.limits.size c.requires.asked c.args.g.now c.requires.given
-    c.in_ok-more.more.items c.in_ok-more.ensures.exact c.refinements_cover.ensures c.args.task.now.limits.unifiers c.args.kept.items c.in_ok-after.after.items c.in_ok-after.ensures
+    c.in_ok-more.more.items c.in_ok-more.ensures.exact c.refinements_cover.ensures c.args.task.now.limits.unifiers c.args.kept c.in_ok-after.after c.in_ok-after.ensures

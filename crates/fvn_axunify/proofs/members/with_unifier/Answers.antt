@@ -9,33 +9,38 @@ made c =
     unifier_kept c.args.task.now.sig.now c.args.task.now.problem.now c.args.task.now.vars.now c.args.task.now.first c.requires.asked
     c.new.result c.from_vec.result c.args.subst c.new.ensures (c.from_vec.ensures ∙ c.in_ok-vars.ensures.items) c.recall_bindings.ensures c.requires.member
 
-kept : (c : goal.After-with_member-arg-1) → IsKept c.args.task.now.sig.now c.args.task.now.problem.now c.args.task.now.vars.now c.args.task.now.first c.in_ok-v.v
-kept c =
-    subst (IsKept c.args.task.now.sig.now c.args.task.now.problem.now c.args.task.now.vars.now c.args.task.now.first) (sym c.in_ok-v.ensures)
-    (
-    unifier_kept c.args.task.now.sig.now c.args.task.now.problem.now c.args.task.now.vars.now c.args.task.now.first c.requires.asked
-    c.new.result c.from_vec.result c.args.subst c.new.ensures (c.from_vec.ensures ∙ c.in_ok-vars.ensures.items) c.recall_bindings.ensures c.requires.member
-    )
-
 pub new-requires-2 : goal.new-requires-2
 new-requires-2 c = flat_variant c.args.task.now.sig.now c.args.task.now.problem.now c.args.task.now.vars.now c.args.task.now.first c.requires.asked _ (made c)
 
 pub with_member-requires-clause-flat : goal.with_member-requires-clause-flat
-with_member-requires-clause-flat c = (
-  flat_variant c.args.task.now.sig.now c.args.task.now.problem.now c.args.task.now.vars.now c.args.task.now.first c.requires.asked c.in_ok-v.v (kept c),
-  all_flat c.args.task.now.sig.now c.args.task.now.problem.now c.args.task.now.vars.now c.args.task.now.first c.requires.asked c.args.kept.items c.requires.kept,
-)
+with_member-requires-clause-flat c =
+    let is_kept =
+    subst (IsKept c.args.task.now.sig.now c.args.task.now.problem.now c.args.task.now.vars.now c.args.task.now.first) (sym c.in_ok-v.ensures)
+    (
+    unifier_kept c.args.task.now.sig.now c.args.task.now.problem.now c.args.task.now.vars.now c.args.task.now.first c.requires.asked
+    c.new.result c.from_vec.result c.args.subst c.new.ensures (c.from_vec.ensures ∙ c.in_ok-vars.ensures.items) c.recall_bindings.ensures c.requires.member
+    ) in (
+      flat_variant c.args.task.now.sig.now c.args.task.now.problem.now c.args.task.now.vars.now c.args.task.now.first c.requires.asked c.in_ok-v.v is_kept,
+      all_flat c.args.task.now.sig.now c.args.task.now.problem.now c.args.task.now.vars.now c.args.task.now.first c.requires.asked c.args.kept c.requires.kept,
+    )
 
 pub with_member-requires-clause-alike : goal.with_member-requires-clause-alike
-with_member-requires-clause-alike c = all_alike c.args.task.now.sig.now c.args.task.now.problem.now c.args.task.now.vars.now c.args.task.now.first c.requires.asked c.in_ok-v.v (kept c) c.args.kept.items c.requires.kept
+with_member-requires-clause-alike c =
+    let is_kept =
+    subst (IsKept c.args.task.now.sig.now c.args.task.now.problem.now c.args.task.now.vars.now c.args.task.now.first) (sym c.in_ok-v.ensures)
+    (
+    unifier_kept c.args.task.now.sig.now c.args.task.now.problem.now c.args.task.now.vars.now c.args.task.now.first c.requires.asked
+    c.new.result c.from_vec.result c.args.subst c.new.ensures (c.from_vec.ensures ∙ c.in_ok-vars.ensures.items) c.recall_bindings.ensures c.requires.member
+    ) in
+    all_alike c.args.task.now.sig.now c.args.task.now.problem.now c.args.task.now.vars.now c.args.task.now.first c.requires.asked c.in_ok-v.v is_kept c.args.kept c.requires.kept
 
 pub returns : goal.returns
 returns c =
     let d = c.args.task.now.sig.now in
-    subst (λ s. IsWith d c.args.task.now.problem.now c.args.task.now.vars.now c.args.task.now.first c.args.kept.items s c.in_ok-after.after.items) (ap (λ v. v.subst) c.in_ok-v.ensures)
+    subst (λ s. IsWith d c.args.task.now.problem.now c.args.task.now.vars.now c.args.task.now.first c.args.kept s c.in_ok-after.after) (ap (λ v. v.subst) c.in_ok-v.ensures)
     (
     with_one d c.args.task.now.problem.now c.args.task.now.vars.now c.args.task.now.first c.requires.asked
-    (c.covering_of_variants_is_a_preorder.ensures d) c.covering_of_unifiers_is_instance.ensures c.args.kept.items c.requires.kept c.in_ok-v.v
+    (c.covering_of_variants_is_a_preorder.ensures d) c.covering_of_unifiers_is_instance.ensures c.args.kept c.requires.kept c.in_ok-v.v
     (
     subst (IsKept d c.args.task.now.problem.now c.args.task.now.vars.now c.args.task.now.first) (sym c.in_ok-v.ensures)
     (
@@ -43,5 +48,5 @@ returns c =
     c.new.result c.from_vec.result c.args.subst c.new.ensures (c.from_vec.ensures ∙ c.in_ok-vars.ensures.items) c.recall_bindings.ensures c.requires.member
     )
     )
-    c.in_ok-after.after.items c.in_ok-after.ensures
+    c.in_ok-after.after c.in_ok-after.ensures
     )

@@ -9,13 +9,13 @@ next-init c =
     let d = c.args.task.now.sig.now in
     let given = c.args.task.now.problem.now in
     let vars = c.args.task.now.vars.now in
-    let none = c.new-kept.ensures.items in
+    let none = c.new-kept.ensures in
     record {
       of = c.requires.of;
-      are = kept_none d given vars c.new-kept.result.items none c.args.task.now.first;
-      few = few_none d given vars c.new-kept.result.items none c.args.task.now.limits.unifiers c.requires.some;
+      are = kept_none d given vars c.new-kept.result none c.args.task.now.first;
+      few = few_none d given vars c.new-kept.result none c.args.task.now.limits.unifiers c.requires.some;
       all = λ u h. inr (c.requires.all u h);
-      run = run_begun d given vars c.new-kept.result.items none c.args.combiner.now;
+      run = run_begun d given vars c.new-kept.result none c.args.combiner.now;
     }
 
 pub with_refinements-requires-clause-given : goal.with_refinements-requires-clause-given
@@ -27,7 +27,7 @@ with_refinements-requires-clause-given c =
 pub returns-in-End-clause-found : goal.returns-in-End-clause-found
 returns-in-End-clause-found c =
     end_found c.args.task.now.sig.now c.args.task.now.problem.now c.args.task.now.vars.now c.args.task.now.first c.args.task.now.limits.unifiers c.args.task.now.limits.size
-    c.next.combiner c.step.new.combiner c.next.invariant.of c.next.kept.items c.next.invariant.are c.next.invariant.few c.next.invariant.all c.in-End.end
+    c.next.combiner c.step.new.combiner c.next.invariant.of c.next.kept c.next.invariant.are c.next.invariant.few c.next.invariant.all c.in-End.end
     (subst (IsNext c.next.combiner c.step.new.combiner) c.in-End.is c.in_ok-end.ensures.next)
 
 pub returns-in-End-clause-run : goal.returns-in-End-clause-run
@@ -42,7 +42,7 @@ pub returns-then-most-len-clause-run : goal.returns-then-most-len-clause-run
 returns-then-most-len-clause-run c =
     let next = subst (IsNext c.next.combiner c.step.new.combiner) c.in-Given.is c.in_ok-end.ensures.next in
     run_full c.args.task.now.sig.now c.args.task.now.problem.now c.args.task.now.vars.now c.args.task.now.first c.args.task.now.limits.unifiers c.args.task.now.limits.size
-    c.next.combiner c.step.new.combiner c.next.invariant.of c.in-Given.g next.0 c.args.combiner.now c.next.kept.items c.in_ok-kept-in-Given.kept.items c.in_ok-kept-in-Given.ensures c.next.invariant.run
+    c.next.combiner c.step.new.combiner c.next.invariant.of c.in-Given.g next.0 c.args.combiner.now c.next.kept c.in_ok-kept-in-Given.kept c.in_ok-kept-in-Given.ensures c.next.invariant.run
 
 pub next-preserved : goal.next-preserved
 next-preserved c =
@@ -54,11 +54,11 @@ next-preserved c =
     let size = c.args.task.now.limits.size in
     let next = subst (IsNext c.next.combiner c.step.new.combiner) c.in-Given.is c.in_ok-end.ensures.next in
     let w = c.in_ok-kept-in-Given.ensures in
-    let few : length c.in_ok-kept-in-Given.kept.items < most = omega (arith, c.if-most-len.false, c.len.ensures) in
+    let few : length c.in_ok-kept-in-Given.kept < most = omega (arith, c.if-most-len.false, c.len.ensures) in
     record {
       of = of_after d given vars first most size c.next.combiner c.step.new.combiner c.next.invariant.of c.in-Given.g next.0 c.step.ensures.same;
       are = w.are;
       few = few;
-      all = goes_on d given vars first most size c.next.combiner c.step.new.combiner c.next.invariant.of c.in-Given.g next.0 c.next.kept.items c.in_ok-kept-in-Given.kept.items w few c.next.invariant.all;
-      run = run_on d given vars first most size c.next.combiner c.step.new.combiner c.next.invariant.of c.in-Given.g next.0 c.args.combiner.now c.next.kept.items c.in_ok-kept-in-Given.kept.items w few c.next.invariant.run;
+      all = goes_on d given vars first most size c.next.combiner c.step.new.combiner c.next.invariant.of c.in-Given.g next.0 c.next.kept c.in_ok-kept-in-Given.kept w few c.next.invariant.all;
+      run = run_on d given vars first most size c.next.combiner c.step.new.combiner c.next.invariant.of c.in-Given.g next.0 c.args.combiner.now c.next.kept c.in_ok-kept-in-Given.kept w few c.next.invariant.run;
     }

@@ -12,11 +12,11 @@ use Rattle.fvn_axunify.proofs.search.run_through.Given as goal
 abbrev pub invariant-next : goal.invariant-next
 invariant-next l = record {
   of : IsOf l.task.sig.now l.task.problem.now l.task.first l.task.limits.size l.combiner;
-  are : AreKept l.task.sig.now l.task.problem.now l.task.vars.now l.task.first l.kept.items;
-  few : length l.kept.items < l.task.limits.unifiers;
+  are : AreKept l.task.sig.now l.task.problem.now l.task.vars.now l.task.first l.kept;
+  few : length l.kept < l.task.limits.unifiers;
   all : (u : Substitution) → IsUnifier l.task.sig.now (problem_of l.task.problem.now) u →
-      IsReached l.task.sig.now l.task.problem.now l.task.vars.now l.kept.items u ⊎ IsToCome l.combiner u;
-  run : IsRun l.task.sig.now l.task.problem.now (IsReached l.task.sig.now l.task.problem.now l.task.vars.now l.kept.items) l.initial.combiner l.combiner;
+      IsReached l.task.sig.now l.task.problem.now l.task.vars.now l.kept u ⊎ IsToCome l.combiner u;
+  run : IsRun l.task.sig.now l.task.problem.now (IsReached l.task.sig.now l.task.problem.now l.task.vars.now l.kept) l.initial.combiner l.combiner;
 }
 
 abbrev pub decreases-next : goal.decreases-next

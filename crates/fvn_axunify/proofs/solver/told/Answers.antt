@@ -18,13 +18,13 @@ use Rattle.fvn_axunify.proofs.solver.told.Goals as goal
 pub above_all-requires-clause-below : goal.above_all-requires-clause-below
 above_all-requires-clause-below c =
     subst (All (λ (s : Bindings). AreBelow NEXT_FRESH (variables_of_terms s))) (sym (c.as_slice.ensures.value ∙ c.in_ok-list.ensures))
-    (all_small c.args.task.now.sig.now c.args.task.now.problem.now c.args.task.now.vars.now c.args.task.now.first c.args.task.now.limits.unifiers c.args.task.now.limits.size c.requires.asked c.args.found.kept.items c.requires.found.are)
+    (all_small c.args.task.now.sig.now c.args.task.now.problem.now c.args.task.now.vars.now c.args.task.now.first c.args.task.now.limits.unifiers c.args.task.now.limits.size c.requires.asked c.args.found.kept c.requires.found.are)
 
 pub returns-clause-solved : goal.returns-clause-solved
 returns-clause-solved c =
     let d = c.args.task.now.sig.now in
     let given = c.args.task.now.problem.now in
-    let list = c.args.found.kept.items in
+    let list = c.args.found.kept in
     subst (λ (us : List Bindings). IsSolvedAs d given c.args.task.now.first c.args.task.now.limits.unifiers c.args.task.now.limits.size (record { unifiers = us; next_fresh = c.in_ok-next_fresh.next_fresh; end = c.args.found.end }))
     (sym (c.from_vec.ensures ∙ c.in_ok-list.ensures))
     (
@@ -39,7 +39,7 @@ returns-clause-searched c = λ _.
     let given = c.args.task.now.problem.now in
     let vars = c.args.task.now.vars.now in
     let first = c.args.task.now.first in
-    let list = c.args.found.kept.items in
+    let list = c.args.found.kept in
     let r : Solved = record { unifiers = map (λ v. v.subst) list; next_fresh = c.in_ok-next_fresh.next_fresh; end = c.args.found.end } in
     subst (λ (us : List Bindings). IsSearched d given (IsAnswered d given (record { unifiers = us; next_fresh = c.in_ok-next_fresh.next_fresh; end = c.args.found.end })) first c.args.task.now.limits.size c.args.found.end)
     (sym (c.from_vec.ensures ∙ c.in_ok-list.ensures))
@@ -54,7 +54,7 @@ returns-clause-coarser c = λ f system is.
     let d = c.args.task.now.sig.now in
     let given = c.args.task.now.problem.now in
     let vars = c.args.task.now.vars.now in
-    let list = c.args.found.kept.items in
+    let list = c.args.found.kept in
     let most = c.args.task.now.limits.unifiers in
     let size = c.args.task.now.limits.size in
     let r : Solved = record { unifiers = map (λ v. v.subst) list; next_fresh = c.in_ok-next_fresh.next_fresh; end = c.args.found.end } in

@@ -1,0 +1,6 @@
+-- bit by bit
+use Rattle.fvn_cover_counts.proofs.WordBits.{and_within}
+use Rattle.fvn_cover_counts.proofs.marks.common_bits.Goals as goal
+
+pub returns : goal.returns
+returns c = let h = and_within c.args.v c.args.w in record { first = h.0; second = h.1 }
