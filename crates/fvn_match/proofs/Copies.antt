@@ -1,5 +1,5 @@
 -- Patterns that stand side by side several times, and the pieces of which so many are left.
-use Rattle.std.proofs.Common.{◌≡◌, ℕ, ◌+◌, ◌*◌, ◌/◌, ◌≤◌, ◌<◌, zero, suc, List, [], ◌∷◌, ◌++◌, length, map, replicate, drop, get_or, refl, sym, ap, ◌∙◌, subst, arith}
+use Rattle.std.proofs.Common.{◌≡◌, ℕ, ◌+◌, ◌*◌, ◌/◌, ◌≤◌, ◌<◌, zero, suc, List, [], ◌∷◌, ◌++◌, length, replicate, drop, get_or, refl, sym, ap, ◌∙◌, arith}
 use Rattle.std.specs.Prelude.{None, sum as std_sum}
 use Rattle.std.specs.List.{AllZip}
 use Rattle.std.proofs.lemmas.List.{length-append, length-replicate, take-append-drop, at_drop_more, drop_all}
@@ -12,9 +12,9 @@ use Rattle.fvn_forms.specs.Flat.{FlatTerm}
 use Rattle.fvn_forms.specs.InOrder.{count}
 use Rattle.fvn_forms.specs.Canon.{parts, inst}
 use Rattle.fvn_match.specs.inner.Choices.{quotients}
-use Rattle.fvn_match.specs.inner.Tallies.{tally, repeated, AreDistinct}
+use Rattle.fvn_match.specs.inner.Tallies.{tally, repeated}
 use Rattle.fvn_match.specs.inner.Summands.{IsRun}
-use Rattle.fvn_match.specs.inner.Candidates.{Values, IsCandidate}
+use Rattle.fvn_match.specs.inner.Candidates.{Values}
 use Rattle.fvn_match.specs.inner.Goals.{patterns_of, pieces_of, SumFits}
 use Rattle.fvn_match.specs.inner.Refusing.{HaveCopies, IsHopeless}
 use Rattle.fvn_match.specs.declared.goals.SumGoal.{SumGoal}

@@ -16,7 +16,7 @@ use Rattle.fvn_forms.specs.Canon.{same_op, is_identity, parts}
 use Rattle.fvn_forms.specs.Settled.{Settled}
 use Rattle.fvn_forms.specs.Good.{IsOfKind, IsGood}
 use Rattle.fvn_forms.specs.Ranks.{ranks_of}
-use Rattle.fvn_forms.specs.LeastSort.{result_of_two, sum_sort, sort_in, sorts_in, least_sort}
+use Rattle.fvn_forms.specs.LeastSort.{result_of_two, sum_sort, sorts_in, least_sort}
 use Rattle.fvn_forms.proofs.Results.{result-is, result-pair, TakesKinds-pair}
 use Rattle.fvn_forms.proofs.Sums.{same_op_is, parts_are_settled}
 use Rattle.fvn_forms.proofs.KindsOfSums.{parts_of_kind}

@@ -1,5 +1,5 @@
 -- Sums that no candidate makes.
-use Rattle.std.proofs.Common.{◌≡◌, ℕ, ◌+◌, ◌*◌, ◌/◌, ◌%◌, ◌≤◌, ◌<◌, Bool, true, false, zero, suc, List, [], ◌∷◌, ◌++◌, length, map, replicate, take, drop, get_or, refl, sym, ap, ◌∙◌, subst, arith, div-add-mod'}
+use Rattle.std.proofs.Common.{◌≡◌, ℕ, ◌+◌, ◌*◌, ◌/◌, ◌%◌, ◌≤◌, ◌<◌, Bool, true, false, zero, suc, List, [], ◌∷◌, ◌++◌, length, replicate, take, drop, get_or, refl, sym, ap, ◌∙◌, subst, arith, div-add-mod'}
 use Rattle.std.specs.Prelude.{◌↔◌, if◌then◌else◌, IsTrue, nat_eq, None, sum as std_sum}
 use Rattle.std.specs.List.{AllByRecursion}
 use Rattle.std.specs.Ordering.{is_gt}
@@ -15,7 +15,7 @@ use Rattle.fvn_terms.specs.Equality.{identity}
 use Rattle.fvn_forms.specs.Flat.{FlatTerm}
 use Rattle.fvn_forms.specs.Order.{flat_cmp, same_flat}
 use Rattle.fvn_forms.specs.InOrder.{insert, sort, one_if, count, SameCounts}
-use Rattle.fvn_forms.specs.Canon.{parts, sum, inst}
+use Rattle.fvn_forms.specs.Canon.{parts, inst}
 use Rattle.fvn_forms.specs.Settled.{Settled}
 use Rattle.fvn_forms.specs.SortOrder.{at_or_below}
 use Rattle.fvn_forms.specs.Good.{IsGood}
@@ -26,7 +26,6 @@ use Rattle.fvn_forms.proofs.Instances.{inst_settled}
 use Rattle.fvn_forms.proofs.LeastSort.{inst_keeps_sorts, inst_of_kind}
 use Rattle.fvn_forms.proofs.SortOrder.{AtOrBelow-trans}
 use Rattle.fvn_forms.proofs.SortTests.{at_or_below-true, at_or_below-complete}
-use Rattle.fvn_forms.proofs.Sums.{sum_parts}
 use Rattle.fvn_flat.specs.Fits.{Fits}
 use Rattle.fvn_flat.proofs.Instances.{each_at}
 use Rattle.fvn_match.specs.inner.Tallies.{tally, repeated, AreDistinct}

@@ -15,7 +15,7 @@ use Rattle.fvn_flat.specs.Bindings.{Bindings, BindingsFit, bound, value, form_or
 use Rattle.fvn_flat.proofs.Occurrences.{OccursIn}
 use Rattle.std.proofs.lemmas.List.{drop_more}
 use Rattle.fvn_match.specs.inner.Variables.{IsAmong, AreVariablesOf}
-use Rattle.fvn_match.specs.inner.Candidates.{Values, IsCandidate, Agrees, pairs_of}
+use Rattle.fvn_match.specs.inner.Candidates.{IsCandidate, pairs_of}
 use Rattle.fvn_match.specs.inner.Goals.{IsBoundTo, weight}
 use Rattle.fvn_match.specs.inner.Known.{AreBound, MakesOnly}
 use Rattle.fvn_match.specs.inner.Apart.{values_with, ApartFits, TakesApart}

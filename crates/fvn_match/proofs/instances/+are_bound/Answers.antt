@@ -1,8 +1,6 @@
 -- One argument more whose variables are bound.
-use Rattle.std.proofs.Common.{◌≡◌, Some, None, sym, ◌∙◌, subst, inr, arith}
+use Rattle.std.proofs.Common.{sym, ◌∙◌, subst, inr, arith}
 use Rattle.std.proofs.lemmas.List.{drop_all}
-use Rattle.fvn_terms.specs.Substitution.{Occurs}
-use Rattle.fvn_forms.specs.Flat.{plain}
 use Rattle.fvn_flat.proofs.Occurrences.{OccursIn, occurs_in_args}
 use Rattle.fvn_flat.proofs.Smaller.{argument_is_smaller}
 use Rattle.fvn_match.specs.inner.Goals.{bindings_of}

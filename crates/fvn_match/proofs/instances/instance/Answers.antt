@@ -1,5 +1,5 @@
 -- The values of the variables, applied.
-use Rattle.std.proofs.Common.{[], ◌∷◌, ◌++◌, sym, ap, ◌∙◌, subst}
+use Rattle.std.proofs.Common.{[], ◌++◌, sym, ap, ◌∙◌, subst}
 use Rattle.fvn_forms.specs.Canon.{inst}
 use Rattle.fvn_flat.specs.Bindings.{BindingsFit, value}
 use Rattle.fvn_match.specs.inner.Variables.{AreVariablesOf}

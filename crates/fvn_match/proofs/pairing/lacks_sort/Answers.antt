@@ -1,7 +1,4 @@
 -- Sorts of a pattern and its target, in order.
-use Rattle.std.proofs.Common.{◌≡◌, sym, subst}
-use Rattle.std.specs.Prelude.{◌↔◌, IsTrue}
-use Rattle.fvn_terms.specs.Signature.{AtOrBelow}
 use Rattle.fvn_match.proofs.pairing.lacks_sort.Goals as goal
 
 pub least_sort-requires : goal.least_sort-requires

@@ -1,5 +1,5 @@
 -- Equal patterns more.
-use Rattle.std.proofs.Common.{◌≡◌, ◌+◌, ◌≤◌, length, drop, sym, ap, ◌∙◌, subst, arith}
+use Rattle.std.proofs.Common.{length, sym, ap, ◌∙◌, subst, arith}
 use Rattle.std.proofs.lemmas.List.{length-drop}
 use Rattle.fvn_match.specs.inner.Summands.{references}
 use Rattle.fvn_match.proofs.Runs.{length_references, references-drop}

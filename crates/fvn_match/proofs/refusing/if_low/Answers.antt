@@ -1,5 +1,5 @@
 -- The test tells which number it is.
-use Rattle.std.proofs.Common.{◌≡◌, true, false, sym, ap, ◌∙◌}
+use Rattle.std.proofs.Common.{sym, ap, ◌∙◌}
 use Rattle.std.specs.Prelude.{if◌then◌else◌, Bool}
 use Rattle.fvn_match.proofs.Hopeless.{low_is}
 use Rattle.fvn_match.proofs.refusing.if_low.Goals as goal

@@ -1,5 +1,5 @@
 -- One pattern more.
-use Rattle.std.proofs.Common.{◌≡◌, ◌≤◌, length, refl, arith, get_or, ap}
+use Rattle.std.proofs.Common.{◌≤◌, length, arith, get_or, ap}
 use denote.Ref.{Bor}
 use Rattle.fvn_forms.specs.Flat.{FlatTerm}
 use Rattle.fvn_terms.specs.Signature.{kind}

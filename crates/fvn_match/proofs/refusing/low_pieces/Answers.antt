@@ -1,12 +1,10 @@
 -- One piece more.
-use Rattle.std.proofs.Common.{◌≡◌, ◌≤◌, length, get_or, refl, arith, ap}
+use Rattle.std.proofs.Common.{◌≤◌, length, get_or, arith, ap}
 use denote.Ref.{Bor}
 use Rattle.fvn_forms.specs.Flat.{FlatTerm}
-use Rattle.fvn_terms.specs.Signature.{kind}
 use Rattle.fvn_match.specs.inner.Goals.{pieces_of}
-use Rattle.fvn_match.specs.inner.Refusing.{is_low}
 use Rattle.fvn_match.proofs.Runs.{references-get, length_references}
-use Rattle.fvn_match.proofs.Hopeless.{piece_fits, if_at_most, low_left-drop, low_left-past, low_left-le}
+use Rattle.fvn_match.proofs.Hopeless.{piece_fits, low_left-drop, low_left-past, low_left-le}
 use Rattle.fvn_match.proofs.refusing.low_pieces.Goals as goal
 
 pub loop-i-init : goal.loop-i-init

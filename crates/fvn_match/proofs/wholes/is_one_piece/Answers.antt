@@ -1,5 +1,5 @@
 -- heads that no instance loses
-use Rattle.std.proofs.Common.{◌≡◌, true, false, Some, sym, ap, ◌∙◌, subst}
+use Rattle.std.proofs.Common.{◌≡◌, true, Some, sym, ap, ◌∙◌, subst}
 use Rattle.std.specs.Prelude.{not, is_some}
 use Rattle.std.proofs.lemmas.Bool.{false≢true}
 use Rattle.fvn_terms.specs.Equality.{is_sum, identity}

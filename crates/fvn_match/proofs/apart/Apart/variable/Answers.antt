@@ -1,5 +1,5 @@
 -- A variable that is bound, or is bound now.
-use Rattle.std.proofs.Common.{◌≡◌, Some, None, refl, sym, ap, ◌∙◌, subst}
+use Rattle.std.proofs.Common.{◌≡◌, Some, None, refl, sym, ◌∙◌, subst}
 use Rattle.std.proofs.lemmas.Bool.{false≢true}
 use Rattle.fvn_flat.specs.Bindings.{bound}
 use Rattle.fvn_match.specs.inner.Goals.{bindings_of, with_bindings}
