@@ -91,7 +91,7 @@ module _ (d : Declarations) (t : NodeTable) where
   -- a solution for f, one part a column, may stand for a summand: of no two classes that are single summands, and that it has, is it told that they differ
   abbrev pub IsLive : State → OpId → (columns solution : List ℕ) → Type 0
   IsLive s f columns solution = (k l : ℕ) → k ≢ l → IsSingle (class_of s) f k → IsSingle (class_of s) f l
-    → 0 < component columns solution k → 0 < component columns solution l → AreTold s k l → ⊥
+      → 0 < component columns solution k → 0 < component columns solution l → AreTold s k l → ⊥
 
   -- Nothing is open that decides what a class is bound to.
   pub record IsLeaf (s : State) : Type 0 where
