@@ -56,6 +56,8 @@ A0 f i g i | f h f i g i => A0 h(f)
 A0 f i A1 i | f g i f h f i i => yes
 A0 A1 i A2 f i i, A2 | f g i g h f i i, g h => A2 h(g)
 A0 A1 i A2 A3 i i | f g i f g i i => yes
+A0, A1, A0 A1 i A0 A0 i i | f, g, f g i f f i i => A0 f; A1 g
+A0, A1, A0 A1 i A0 A0 i i | f, g, f g i g g i i => no
 A0~ f i~, A0~ g i~ | g~ f i~, g~ g i~ => A0 g
 A0~ f i~, A0~ g i~ | g~ f i~, f~ g i~ => no
 A0~ f i~, A0~ f i~, A0~ f i~, A0~ f i~, A0~ f i~, A0~ f i~, A0~ f i~, A0~ f i~, A0~ f i~, A0~ f i~, A0~ f i~, A0~ f i~, A0~ f i~, A0~ f i~, A0~ f i~, A0~ f i~, A0~ f i~, A0~ f i~, A0~ f i~, A0~ f i~, A0~ f i~, A0~ f i~, A0~ f i~, A0~ f i~, A0~ f i~, A0~ f i~, A0~ f i~, A0~ f i~, A0~ f i~, A0~ f i~, A0~ f i~, A0~ f i~, A0~ f i~, A0~ f i~, A0~ f i~, A0~ f i~, A0~ f i~, A0~ f i~, A0~ f i~, A0~ f i~ | g~ f i~, g~ f i~, g~ f i~, g~ f i~, g~ f i~, g~ f i~, g~ f i~, g~ f i~, g~ f i~, g~ f i~, g~ f i~, g~ f i~, g~ f i~, g~ f i~, g~ f i~, g~ f i~, g~ f i~, g~ f i~, g~ f i~, g~ f i~, g~ f i~, g~ f i~, g~ f i~, g~ f i~, g~ f i~, g~ f i~, g~ f i~, g~ f i~, g~ f i~, g~ f i~, g~ f i~, g~ f i~, g~ f i~, g~ f i~, g~ f i~, g~ f i~, g~ f i~, g~ f i~, g~ f i~, g~ f i~ => A0 g
@@ -94,6 +96,8 @@ A0 f g j j | f f f j j => no
 A0 f g j j, A0 | g f g j j, g => A0 g
 A0 f g j j, A0 | g f g j j, f => no
 A0 A0 f g j j j | f f f g j j j => A0 f
+A0, A0 f j h A0 j | g, g f j h g j => A0 g
+A0, A0 f j h A0 j | g, f f j h g j => no
 
 A; f : -> A; g : -> A; h : A A -> A [comm]; i : A A -> A [assoc comm id: f]
 A0 A1 h, A0 | f f h, f => A0 f; A1 f
