@@ -4,7 +4,7 @@
 //! each row but the outermost of a class says what one column more is, so that no more solutions come up on the way than
 //! summands. The rows that do not define a column come first, and again in their turn, where they ask nothing new: as long
 //! as few solutions solve these, no more come up at the others.
-ghost use Rattle.std.specs.Prelude.{◌≡◌, ◌++◌, reverse, All, Contains, IfOk, IfSome};
+ghost use Rattle.std.specs.Prelude.{◌≡◌, ◌≤◌, ◌++◌, reverse, All, Contains, IfOk, IfSome};
 ghost use Rattle.fvn_terms.specs.Signature.{axioms};
 ghost use Rattle.fvn_terms.specs.Equality.{IsAssociative};
 ghost use Rattle.fvn_lindio.specs.Systems.{IsSystem};
@@ -87,22 +87,41 @@ fn turned_system(alloc: Global, system: &System, left: &[bool]) -> Result<System
     })
 }
 
-// The minimal solutions of a sum operator's system, found in that order.
-fn basis_from_last(alloc: Global, sums: &Sums) -> Result<Option<Seq<Solution>>, NoMemory>
-    requires { IsSystem sums.now.system }
+// The minimal solutions of a sum operator's system, found in that order, where there are at most so many.
+fn basis_in_order(
+    alloc: Global,
+    sums: &Sums,
+    left: &[bool],
+    most: usize,
+) -> Result<Option<Seq<Solution>>, NoMemory>
+    requires system { IsSystem sums.now.system }
+    requires most { most ≤ LISTED_SOLUTIONS }
     ensures { IfOk result (λ o. IfSome o (IsBasis sums.now.system)) }
 {
-    let left = rows_left(alloc, sums.system.rows.as_slice(), sums.system.columns)?;
-    if !are_few_left(alloc, &sums.system, left.as_slice())? {
-        return Ok(None);
-    }
-    let turned = turned_system(alloc, &sums.system, left.as_slice())?;
-    match basis(alloc, &turned, LISTED_SOLUTIONS) {
+    let turned = turned_system(alloc, &sums.system, left)?;
+    match basis(alloc, &turned, most) {
         Ok(solutions) => Ok(Some(solutions)),
         Err(LinFault::TooMany(_)) => Ok(None),
         Err(LinFault::TooWide(_)) => Ok(None),
         Err(LinFault::NoMemory) => Err(NoMemory),
     }
+}
+
+// The minimal solutions of a sum operator's system: first from the last row on, and where these are too many on the way,
+// with the rows that are left first.
+fn basis_from_last(alloc: Global, sums: &Sums) -> Result<Option<Seq<Solution>>, NoMemory>
+    requires { IsSystem sums.now.system }
+    ensures { IfOk result (λ o. IfSome o (IsBasis sums.now.system)) }
+{
+    if let Some(solutions) = basis_in_order(alloc, sums, &[], SOLUTIONS_LEFT)? {
+        return Ok(Some(solutions));
+    }
+    let left = rows_left(alloc, sums.system.rows.as_slice(), sums.system.columns)?;
+    if !are_few_left(alloc, &sums.system, left.as_slice())? {
+        return Ok(None);
+    }
+    let found = basis_in_order(alloc, sums, left.as_slice(), LISTED_SOLUTIONS)?;
+    Ok(found)
 }
 
 // The same, where choices among them are not too many.

@@ -1,12 +1,10 @@
 -- The minimal solutions are those of the system as it stands.
+use Rattle.std.proofs.Common.{arith}
 use Rattle.fvn_combine_candidates.proofs.Turned.{turned_fits, turned_minimal}
-use Rattle.fvn_combine_candidates.proofs.last_first.basis_from_last.Goals as goal
-
-pub are_few_left-requires : goal.are_few_left-requires
-are_few_left-requires c = c.requires
+use Rattle.fvn_combine_candidates.proofs.last_first.basis_in_order.Goals as goal
 
 pub basis-requires : goal.basis-requires
-basis-requires c = turned_fits c.args.sums.now.system c.in_ok-turned.turned c.in_ok-turned.ensures c.requires
+basis-requires c = turned_fits c.args.sums.now.system c.in_ok-turned.turned c.in_ok-turned.ensures c.requires.system
 
 pub returns-in-Ok : goal.returns-in-Ok
 returns-in-Ok c =
@@ -14,6 +12,6 @@ returns-in-Ok c =
     record {
       exact = λ v. (λ m. (same v).0 ((c.in-Ok.ensures.exact v).0 m), λ h. (c.in-Ok.ensures.exact v).1 ((same v).1 h));
       ordered = c.in-Ok.ensures.ordered;
-      few = c.in-Ok.ensures.few;
+      few = omega (arith, c.in-Ok.ensures.few, c.requires.most);
       narrow = c.in-Ok.ensures.narrow;
     }
