@@ -43,8 +43,8 @@ search A0 = A0 h A1 l => few | 1 1
 search A0 = A1 f n; A1 = A0 f k => few | 1 0
 search A0 = A1 o h l; A1 = A0 f m => few | 1 0
 search A0 = A1 o h l; A1 = A2 f m; A2 = A0 f l => few | 1 0
-search A0 A1 l A2 m = A0 A2 l A1 m => few | 27 12
-search A0 A1 l A2 m A0 l = A2 A1 l A0 m A1 l => few | 67 8
+search A0 A1 l A2 m = A0 A2 l A1 m => few | 30 12
+search A0 A1 l A2 m A0 l = A2 A1 l A0 m A1 l => few | 57 8
 search A0 A1 k h A2 l = f h h A3 l => few | 2 1
 search A0 A1 k = A2 f k; A0 A3 l = A4 f l => few | 5 13
 search A0 A1 l A2 m A3 l = f => few | 13 10";
@@ -75,9 +75,9 @@ const RINGS: &str =
 
 // The same over these, where nearly every class is added by both.
 const SEARCHED_OF_RINGS: &str =
-    "search A0 A1 h A2 A3 h i A0 i = A0 A2 h A1 A3 h i A1 i => few | 805 76
-search A0 A1 i A2 h A3 i = A2 A3 i A0 h A1 i => few | 340 52
-search A0 A1 A2 i h A1 A0 A3 i h i = A2 A3 i => few | 367 122";
+    "search A0 A1 h A2 A3 h i A0 i = A0 A2 h A1 A3 h i A1 i => few | 810 71
+search A0 A1 i A2 h A3 i = A2 A3 i A0 h A1 i => few | 346 59
+search A0 A1 A2 i h A1 A0 A3 i h i = A2 A3 i => few | 319 119";
 
 #[test]
 fn searches_stay_short(rt: HostRuntime) -> Result<(), NoMemory> {
