@@ -1,0 +1,49 @@
+-- Answers with later numbers than asked for, and what is kept of an answer.
+use Rattle.std.proofs.Common.{◌≡◌, ◌≤◌, ◌<◌, ℕ, true, refl, sym, ap, subst, Some, arith, All}
+use Rattle.std.specs.Prelude.{Contains}
+use Rattle.fvn_base.specs.declared.limits.TheConstants.{FIRST_FRESH}
+use Rattle.fvn_terms.specs.declared.declarations.Declarations.{Declarations}
+use Rattle.fvn_terms.specs.Substitution.{Substitution, Occurs}
+use Rattle.fvn_terms.specs.Unifiers.{Problem}
+use Rattle.fvn_forms.specs.Flat.{FlatTerm, plain}
+use Rattle.fvn_flat.specs.Bindings.{Bindings, value}
+use Rattle.fvn_flat.specs.Problems.{variables_of}
+use Rattle.fvn_flat.specs.Solving.{IsGiven, IsNumbered, AreNumbered, problem_of}
+use Rattle.fvn_flat.specs.declared.solver.Pairs.{Pairs}
+use Rattle.fvn_flat.specs.declared.solver.Solved.{Solved}
+use Rattle.fvn_flat.specs.declared.solver.SolveEnd.TheVariants.{Complete}
+use Rattle.fvn_remembering.specs.declared.answer.Answer.{Answer}
+use Rattle.fvn_remembering.specs.declared.keeping.TheConstants.{FIRST}
+use Rattle.fvn_remembering.specs.Answers.{Solving, pair_of, told_of, IsAnswer, IsKept}
+
+module _ (d : Declarations) (given : Pairs) (first : ℕ) (low : first ≤ FIRST) where
+  -- what may be asked from one number on may be asked from a later one on
+  pub given_later : IsGiven d given first → IsGiven d given FIRST
+  given_later g = record {
+    fit = g.fit;
+    kinds = g.kinds;
+    numbers = λ x c fresh. omega (arith, g.numbers x c fresh, low);
+    small = omega (arith);
+  }
+
+  numbered_earlier : (r : Solved) → AreNumbered d given FIRST r → AreNumbered d given first r
+  numbered_earlier r all = λ i s get. λ x y c o. let n = all i s get x y c o in (n.0, omega (arith, n.1.0, low), n.1.1)
+
+  -- numbers from a later one on are numbers from this one on
+  pub answer_earlier : (s : Solving) → s.declarations ≡ d → (drawn : Problem → Substitution → Type 0) (r : Solved) → IsAnswer s drawn FIRST given r → IsAnswer s drawn first given r
+  answer_earlier s is drawn r a = record {
+    sound = a.sound;
+    are_drawn = a.are_drawn;
+    binds = a.binds;
+    fresh = subst (λ (e : Declarations). AreNumbered e given first r) (sym is) (numbered_earlier r (subst (λ (e : Declarations). AreNumbered e given FIRST r) is a.fresh));
+    next = omega (arith, a.next, low);
+    bounded = a.bounded;
+    apart = a.apart;
+    complete = a.complete;
+    cause = a.cause;
+  }
+
+-- a complete answer is kept as it was told
+pub kept_as_told : (s : Solving) (drawn : Problem → Substitution → Type 0) (r : Solved) (answer : Answer) → r.end ≡ Complete → answer.unifiers ≡ r.unifiers → answer.next_fresh ≡ r.next_fresh → IsAnswer s drawn FIRST (pair_of answer.first answer.second) r → IsKept s drawn answer
+kept_as_told s drawn r answer ended unifiers next a =
+    subst (λ (x : Solved). IsAnswer s drawn FIRST (pair_of answer.first answer.second) x) (λ i. record { unifiers = sym unifiers i; next_fresh = sym next i; end = ended i }) a

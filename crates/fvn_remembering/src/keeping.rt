@@ -1,0 +1,125 @@
+//! Where answers are kept: slots that any thread may write, each once.
+ghost use Rattle.std.specs.Prelude.{◌≡◌, Some, IfOk, IfSome};
+ghost use Rattle.fvn_remembering.specs.Answers.{solving, pair_of, IsAnswer, IsKept};
+
+use crate::answer::Answer;
+use boxcar::slot::{OnceSlot, SlotRule};
+use boxcar::tag::Tag;
+use fvn_flat::{AxiomSolver, Flat, Solved};
+use fvn_terms::NoMemory;
+use std::alloc::Global;
+use std::marker::{Brand, PhantomData};
+
+/// The number that new variables of kept answers begin with.
+pub(crate) const FIRST: u32 = 64;
+
+// How many answers are kept.
+const ANSWERS: usize = 256;
+
+/// The value that is meant where only a type is at hand.
+pub trait Named<S> {
+    /// The value, if one is meant.
+    ghost value: { Option S };
+}
+
+impl<S> Named<S> for Brand {
+    ghost use Rattle.std.specs.Prelude.{None};
+
+    ghost value = { None };
+}
+
+// What is known of a kept answer: the solver that is meant promises it.
+pub(crate) struct Promised<A, N> {
+    solver: PhantomData<A>,
+    name: PhantomData<N>,
+}
+
+impl<A: AxiomSolver, N: Named<A>> SlotRule<Answer> for Promised<A, N> {
+    ghost holds = { λ _ answer. (s : A) → N.value ≡ Some s
+        → IsKept (solving (A.signature s) (A.most_unifiers s) (A.most_symbols s)) (A.drawn s) answer };
+}
+
+/// Slots without an answer.
+pub(crate) fn no_answers<A: AxiomSolver, N: Named<A>>(
+    alloc: Global,
+) -> Result<Vec<OnceSlot<Answer, Promised<A, N>>>, NoMemory> {
+    let mut slots = Vec::with_capacity(alloc, ANSWERS)?;
+    for _ in 0..ANSWERS {
+        slots.push(OnceSlot::new(&Tag::empty()))?;
+    }
+    Ok(slots)
+}
+
+// The answer in the slot, which the solver promises.
+fn kept_in<'s, A: AxiomSolver, N: Named<A>>(
+    _solver: &A,
+    slot: &'s OnceSlot<Answer, Promised<A, N>>,
+) -> Option<&'s Answer>
+    requires { N.value ≡ Some _solver.now }
+    ensures { IfSome result (λ answer. IsKept (solving (A.signature _solver.now)
+        (A.most_unifiers _solver.now) (A.most_symbols _solver.now)) (A.drawn _solver.now) answer.now) }
+{
+    slot.get()
+}
+
+/// The answer that is kept for the pair of these two forms, where there is one.
+pub(crate) fn recalled<A: AxiomSolver, N: Named<A>>(
+    alloc: Global,
+    solver: &A,
+    slots: &[OnceSlot<Answer, Promised<A, N>>],
+    t: &Flat,
+    u: &Flat,
+) -> Result<Option<Solved>, NoMemory>
+    requires { N.value ≡ Some solver.now }
+    ensures { IfOk result (λ found. IfSome found (IsAnswer (solving (A.signature solver.now)
+        (A.most_unifiers solver.now) (A.most_symbols solver.now)) (A.drawn solver.now) FIRST
+        (pair_of t.now u.now))) }
+{
+    for slot in slots {
+        let Some(answer) = kept_in(solver, slot) else {
+            return Ok(None);
+        };
+        let is = answer.is_to(t, u);
+        if is {
+            let solved = answer.told(alloc)?;
+            return Ok(Some(solved));
+        }
+    }
+    Ok(None)
+}
+
+// The answer again, where the slot has one already.
+fn offered<A: AxiomSolver, N: Named<A>>(
+    _solver: &A,
+    slot: &OnceSlot<Answer, Promised<A, N>>,
+    answer: Answer,
+) -> Option<Answer>
+    requires named { N.value ≡ Some _solver.now }
+    requires kept { IsKept (solving (A.signature _solver.now) (A.most_unifiers _solver.now)
+        (A.most_symbols _solver.now)) (A.drawn _solver.now) answer }
+    ensures { IfSome result (λ back. back ≡ answer) }
+{
+    match slot.set_written(answer) {
+        Ok(_) => None,
+        Err(back) => Some(back),
+    }
+}
+
+/// Keeps the answer in the first slot without one; where there is none, it is not kept.
+pub(crate) fn keep<A: AxiomSolver, N: Named<A>>(
+    solver: &A,
+    slots: &[OnceSlot<Answer, Promised<A, N>>],
+    answer: Answer,
+)
+    requires named { N.value ≡ Some solver.now }
+    requires kept { IsKept (solving (A.signature solver.now) (A.most_unifiers solver.now)
+        (A.most_symbols solver.now)) (A.drawn solver.now) answer }
+{
+    let mut rest = answer;
+    for slot in slots {
+        let Some(back) = offered(solver, slot, rest) else {
+            return;
+        };
+        rest = back;
+    }
+}

@@ -1,0 +1,10 @@
+//! A solver that keeps the answers of another one, so that what is asked again is not solved again.
+#![tactic(auto)]
+
+mod answer;
+mod copying;
+mod keeping;
+mod remembering;
+
+pub use keeping::Named;
+pub use remembering::Remembering;
