@@ -27,7 +27,7 @@ module _ (d : Declarations) (given : Pairs) (first : ℕ) (low : first ≤ FIRST
   }
 
   numbered_earlier : (r : Solved) → AreNumbered d given FIRST r → AreNumbered d given first r
-  numbered_earlier r all = λ i s get. λ x y c o. let n = all i s get x y c o in (n.0, omega (arith, n.1.0, low), n.1.1)
+  numbered_earlier r all = λ i s get. λ x y c o. let n = all i s get x y c o in (n.0, omega (arith, n.1, low), n.2)
 
   -- numbers from a later one on are numbers from this one on
   pub answer_earlier : (s : Solving) → s.declarations ≡ d → (drawn : Problem → Substitution → Type 0) (r : Solved) → IsAnswer s drawn FIRST given r → IsAnswer s drawn first given r

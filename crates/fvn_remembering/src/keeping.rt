@@ -1,11 +1,12 @@
 //! Where answers are kept: slots that any thread may write, each once.
-ghost use Rattle.std.specs.Prelude.{◌≡◌, Some, IfOk, IfSome};
-ghost use Rattle.fvn_remembering.specs.Answers.{solving, pair_of, IsAnswer, IsKept};
+ghost use Rattle.std.specs.Prelude.{◌≡◌, Option, Some, IfOk, IfSome};
+ghost use Rattle.fvn_remembering.specs.Answers.{pair_of, IsAnswer, IsKept};
 
 use crate::answer::Answer;
+use crate::solves::Solves;
 use boxcar::slot::{OnceSlot, SlotRule};
 use boxcar::tag::Tag;
-use fvn_flat::{AxiomSolver, Flat, Solved};
+use fvn_flat::{Flat, Solved};
 use fvn_terms::NoMemory;
 use std::alloc::Global;
 use std::marker::{Brand, PhantomData};
@@ -29,20 +30,20 @@ impl<S> Named<S> for Brand {
 }
 
 // What is known of a kept answer: the solver that is meant promises it.
-pub(crate) struct Promised<A, N> {
-    solver: PhantomData<A>,
+pub(crate) struct Promised<S, N> {
+    solver: PhantomData<S>,
     name: PhantomData<N>,
 }
 
-impl<A: AxiomSolver, N: Named<A>> SlotRule<Answer> for Promised<A, N> {
-    ghost holds = { λ _ answer. (s : A) → N.value ≡ Some s
-        → IsKept (solving (A.signature s) (A.most_unifiers s) (A.most_symbols s)) (A.drawn s) answer };
+impl<S: Solves, N: Named<S>> SlotRule<Answer> for Promised<S, N> {
+    ghost holds = { λ _ answer. (s : S) → N.value ≡ Some s
+        → IsKept (S.solving s) (S.drawn s) answer };
 }
 
 /// Slots without an answer.
-pub(crate) fn no_answers<A: AxiomSolver, N: Named<A>>(
+pub(crate) fn no_answers<S: Solves, N: Named<S>>(
     alloc: Global,
-) -> Result<Vec<OnceSlot<Answer, Promised<A, N>>>, NoMemory> {
+) -> Result<Vec<OnceSlot<Answer, Promised<S, N>>>, NoMemory> {
     let mut slots = Vec::with_capacity(alloc, ANSWERS)?;
     for _ in 0..ANSWERS {
         slots.push(OnceSlot::new(&Tag::empty()))?;
@@ -51,29 +52,28 @@ pub(crate) fn no_answers<A: AxiomSolver, N: Named<A>>(
 }
 
 // The answer in the slot, which the solver promises.
-fn kept_in<'s, A: AxiomSolver, N: Named<A>>(
-    _solver: &A,
-    slot: &'s OnceSlot<Answer, Promised<A, N>>,
+fn kept_in<'s, S: Solves, N: Named<S>>(
+    _solver: &S,
+    slot: &'s OnceSlot<Answer, Promised<S, N>>,
 ) -> Option<&'s Answer>
     requires { N.value ≡ Some _solver.now }
-    ensures { IfSome result (λ answer. IsKept (solving (A.signature _solver.now)
-        (A.most_unifiers _solver.now) (A.most_symbols _solver.now)) (A.drawn _solver.now) answer.now) }
+    ensures { IfSome result (λ answer.
+        IsKept (S.solving _solver.now) (S.drawn _solver.now) answer.now) }
 {
     slot.get()
 }
 
 /// The answer that is kept for the pair of these two forms, where there is one.
-pub(crate) fn recalled<A: AxiomSolver, N: Named<A>>(
+pub(crate) fn recalled<S: Solves, N: Named<S>>(
     alloc: Global,
-    solver: &A,
-    slots: &[OnceSlot<Answer, Promised<A, N>>],
+    solver: &S,
+    slots: &[OnceSlot<Answer, Promised<S, N>>],
     t: &Flat,
     u: &Flat,
 ) -> Result<Option<Solved>, NoMemory>
     requires { N.value ≡ Some solver.now }
-    ensures { IfOk result (λ found. IfSome found (IsAnswer (solving (A.signature solver.now)
-        (A.most_unifiers solver.now) (A.most_symbols solver.now)) (A.drawn solver.now) FIRST
-        (pair_of t.now u.now))) }
+    ensures { IfOk result (λ found. IfSome found
+        (IsAnswer (S.solving solver.now) (S.drawn solver.now) FIRST (pair_of t.now u.now))) }
 {
     for slot in slots {
         let Some(answer) = kept_in(solver, slot) else {
@@ -89,14 +89,13 @@ pub(crate) fn recalled<A: AxiomSolver, N: Named<A>>(
 }
 
 // The answer again, where the slot has one already.
-fn offered<A: AxiomSolver, N: Named<A>>(
-    _solver: &A,
-    slot: &OnceSlot<Answer, Promised<A, N>>,
+fn offered<S: Solves, N: Named<S>>(
+    _solver: &S,
+    slot: &OnceSlot<Answer, Promised<S, N>>,
     answer: Answer,
 ) -> Option<Answer>
     requires named { N.value ≡ Some _solver.now }
-    requires kept { IsKept (solving (A.signature _solver.now) (A.most_unifiers _solver.now)
-        (A.most_symbols _solver.now)) (A.drawn _solver.now) answer }
+    requires kept { IsKept (S.solving _solver.now) (S.drawn _solver.now) answer }
     ensures { IfSome result (λ back. back ≡ answer) }
 {
     match slot.set_written(answer) {
@@ -106,14 +105,13 @@ fn offered<A: AxiomSolver, N: Named<A>>(
 }
 
 /// Keeps the answer in the first slot without one; where there is none, it is not kept.
-pub(crate) fn keep<A: AxiomSolver, N: Named<A>>(
-    solver: &A,
-    slots: &[OnceSlot<Answer, Promised<A, N>>],
+pub(crate) fn keep<S: Solves, N: Named<S>>(
+    solver: &S,
+    slots: &[OnceSlot<Answer, Promised<S, N>>],
     answer: Answer,
 )
     requires named { N.value ≡ Some solver.now }
-    requires kept { IsKept (solving (A.signature solver.now) (A.most_unifiers solver.now)
-        (A.most_symbols solver.now)) (A.drawn solver.now) answer }
+    requires kept { IsKept (S.solving solver.now) (S.drawn solver.now) answer }
 {
     let mut rest = answer;
     for slot in slots {

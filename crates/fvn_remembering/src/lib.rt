@@ -5,6 +5,8 @@ mod answer;
 mod copying;
 mod keeping;
 mod remembering;
+mod solves;
 
 pub use keeping::Named;
 pub use remembering::Remembering;
+pub use solves::{Asking, Solves};

@@ -1,12 +1,13 @@
 //! A solver that keeps the answers of another one.
-ghost use Rattle.std.specs.Prelude.{◌≡◌, ◌↔◌, ◌∷◌, [], Some, IsTrue, IfOk, IfSome};
+ghost use Rattle.std.specs.Prelude.{◌≡◌, ◌↔◌, Some, IsTrue, IfOk, IfSome};
 ghost use Rattle.fvn_flat.specs.Solving.{IsGiven};
 ghost use Rattle.fvn_flat.specs.declared.solver.SolveEnd.TheVariants.{Complete};
-ghost use Rattle.fvn_remembering.specs.Answers.{solving, pair_of, IsAnswer};
+ghost use Rattle.fvn_remembering.specs.Answers.{pair_of, IsAnswer};
 
 use crate::answer::Answer;
 use crate::copying::copies;
 use crate::keeping::{FIRST, Named, Promised, keep, no_answers, recalled};
+use crate::solves::Solves;
 use boxcar::slot::OnceSlot;
 use fvn_base::Seq;
 use fvn_flat::{AxiomSolver, Flat, Pairs, SolveEnd, Solved};
@@ -15,25 +16,10 @@ use std::alloc::Global;
 
 /// Answers as another solver does, and keeps what that one told of problems of one pair, to tell it again.
 #[derive(Drop)]
-pub struct Remembering<'a, A: AxiomSolver, N: Named<A>> {
-    pub(crate) solver: &'a A,
-    slots: Vec<OnceSlot<Answer, Promised<A, N>>>,
+pub struct Remembering<'a, S: Solves, N: Named<S>> {
+    pub(crate) solver: &'a S,
+    slots: Vec<OnceSlot<Answer, Promised<S, N>>>,
     ghost named: { N.value ≡ Some solver.now },
-}
-
-// What the solver itself tells.
-fn asked<A: AxiomSolver>(
-    alloc: Global,
-    solver: &A,
-    problem: &Pairs,
-    first: u32,
-) -> Result<Solved, NoMemory>
-    requires { IsGiven (A.signature solver.now) problem.now first }
-    ensures { IfOk result (IsAnswer (solving (A.signature solver.now)
-        (A.most_unifiers solver.now) (A.most_symbols solver.now)) (A.drawn solver.now) first problem.now) }
-{
-    let solved = solver.solve(alloc, problem, first)?;
-    Ok(solved)
 }
 
 // The two forms, where the problem is of one pair.
@@ -60,9 +46,9 @@ fn is_complete(end: &SolveEnd) -> bool
     }
 }
 
-impl<'a, A: AxiomSolver, N: Named<A>> Remembering<'a, A, N> {
+impl<'a, S: Solves, N: Named<S>> Remembering<'a, S, N> {
     /// Answers as this solver does, and has kept nothing yet.
-    pub fn new(alloc: Global, solver: &'a A) -> Result<Remembering<'a, A, N>, NoMemory>
+    pub fn new(alloc: Global, solver: &'a S) -> Result<Remembering<'a, S, N>, NoMemory>
         requires { N.value ≡ Some solver.now }
         ensures { IfOk result (λ r. r.solver.now ≡ solver.now) }
     {
@@ -72,18 +58,19 @@ impl<'a, A: AxiomSolver, N: Named<A>> Remembering<'a, A, N> {
 
     // Keeps an answer to the pair of these two, where it is complete.
     fn take(&self, alloc: Global, t: &Flat, u: &Flat, solved: &Solved) -> Result<(), NoMemory>
-        requires { IsAnswer (solving (A.signature self.now.solver.now)
-            (A.most_unifiers self.now.solver.now) (A.most_symbols self.now.solver.now))
-            (A.drawn self.now.solver.now) FIRST (pair_of t.now u.now) solved.now }
+        requires { IsAnswer (S.solving self.now.solver.now) (S.drawn self.now.solver.now) FIRST
+            (pair_of t.now u.now) solved.now }
     {
         let complete = is_complete(&solved.end);
         if !complete {
             return Ok(());
         }
         let unifiers = copies(alloc, solved.unifiers.as_slice())?;
+        let first = t.copy(alloc)?;
+        let second = u.copy(alloc)?;
         let answer = Answer {
-            first: t.copy(alloc)?,
-            second: u.copy(alloc)?,
+            first,
+            second,
             unifiers: Seq::from_vec(unifiers),
             next_fresh: solved.next_fresh,
         };
@@ -100,33 +87,31 @@ impl<'a, A: AxiomSolver, N: Named<A>> Remembering<'a, A, N> {
         u: &Flat,
     ) -> Result<Solved, NoMemory>
         requires is { problem.now ≡ pair_of t.now u.now }
-        requires given { IsGiven (A.signature self.now.solver.now) problem.now FIRST }
-        ensures { IfOk result (IsAnswer (solving (A.signature self.now.solver.now)
-            (A.most_unifiers self.now.solver.now) (A.most_symbols self.now.solver.now))
-            (A.drawn self.now.solver.now) FIRST problem.now) }
+        requires given { IsGiven (S.solving self.now.solver.now).declarations problem.now FIRST }
+        ensures { IfOk result (IsAnswer (S.solving self.now.solver.now)
+            (S.drawn self.now.solver.now) FIRST problem.now) }
     {
         let found = recalled(alloc, self.solver, self.slots.as_slice(), t, u)?;
-        if let Some(solved) = found {
-            return Ok(solved);
+        if let Some(kept) = found {
+            return Ok(kept);
         }
-        let solved = asked(alloc, self.solver, problem, FIRST)?;
+        let solved = self.solver.solve(alloc, problem, FIRST)?;
         self.take(alloc, t, u, &solved)?;
         Ok(solved)
     }
 
     // The answer: one that is kept begins with new variables of one number, whatever number is asked for.
     fn told(&self, alloc: Global, problem: &Pairs, first: u32) -> Result<Solved, NoMemory>
-        requires { IsGiven (A.signature self.now.solver.now) problem.now first }
-        ensures { IfOk result (IsAnswer (solving (A.signature self.now.solver.now)
-            (A.most_unifiers self.now.solver.now) (A.most_symbols self.now.solver.now))
-            (A.drawn self.now.solver.now) first problem.now) }
+        requires { IsGiven (S.solving self.now.solver.now).declarations problem.now first }
+        ensures { IfOk result (IsAnswer (S.solving self.now.solver.now)
+            (S.drawn self.now.solver.now) first problem.now) }
     {
         if first > FIRST {
-            let solved = asked(alloc, self.solver, problem, first)?;
+            let solved = self.solver.solve(alloc, problem, first)?;
             return Ok(solved);
         }
         let Some((t, u)) = one_pair(problem) else {
-            let other = asked(alloc, self.solver, problem, first)?;
+            let other = self.solver.solve(alloc, problem, first)?;
             return Ok(other);
         };
         let answer = self.answered(alloc, problem, t, u)?;
@@ -134,14 +119,14 @@ impl<'a, A: AxiomSolver, N: Named<A>> Remembering<'a, A, N> {
     }
 }
 
-impl<A: AxiomSolver, N: Named<A>> AxiomSolver for Remembering<'_, A, N> {
-    ghost signature = { λ s. A.signature s.solver.now };
+impl<S: Solves + Sync, N: Named<S>> AxiomSolver for Remembering<'_, S, N> {
+    ghost signature = { λ s. (S.solving s.solver.now).declarations };
 
-    ghost most_unifiers = { λ s. A.most_unifiers s.solver.now };
+    ghost most_unifiers = { λ s. (S.solving s.solver.now).most_unifiers };
 
-    ghost most_symbols = { λ s. A.most_symbols s.solver.now };
+    ghost most_symbols = { λ s. (S.solving s.solver.now).most_symbols };
 
-    ghost drawn = { λ s. A.drawn s.solver.now };
+    ghost drawn = { λ s. S.drawn s.solver.now };
 
     fn solve(&self, alloc: Global, problem: &Pairs, first_fresh: u32) -> Result<Solved, NoMemory> {
         let solved = self.told(alloc, problem, first_fresh)?;

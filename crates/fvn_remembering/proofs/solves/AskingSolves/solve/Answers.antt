@@ -1,5 +1,5 @@
 -- What the solver promises, in one record.
-use Rattle.fvn_remembering.proofs.remembering.asked.Goals as goal
+use Rattle.fvn_remembering.proofs.solves.AskingSolves.solve.Goals as goal
 
 pub returns : goal.returns
 returns g c = record {

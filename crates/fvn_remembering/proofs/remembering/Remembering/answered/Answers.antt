@@ -1,0 +1,16 @@
+-- The answer that is kept is one to the problem.
+use Rattle.std.proofs.Common.{sym, subst}
+use Rattle.fvn_flat.specs.declared.solver.Pairs.{Pairs}
+use Rattle.fvn_remembering.specs.declared.keeping.TheConstants.{FIRST}
+use Rattle.fvn_remembering.specs.Answers.{pair_of, IsAnswer}
+use Rattle.fvn_remembering.proofs.remembering.Remembering.answered.Goals as goal
+
+pub returns-in-Some-kept : goal.returns-in-Some-kept
+returns-in-Some-kept g c =
+    subst (λ (p : Pairs). IsAnswer (g.S.Solves.solving c.args.self.now.solver.now) (g.S.Solves.drawn c.args.self.now.solver.now) FIRST p c.in-Some.kept)
+    (sym c.requires.is) c.in-Some.ensures
+
+pub take-requires : goal.take-requires
+take-requires g c =
+    subst (λ (p : Pairs). IsAnswer (g.S.Solves.solving c.args.self.now.solver.now) (g.S.Solves.drawn c.args.self.now.solver.now) FIRST p c.in_ok-solved.solved)
+    c.requires.is c.in_ok-solved.ensures

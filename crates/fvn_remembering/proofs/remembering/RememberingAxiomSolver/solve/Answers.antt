@@ -1,0 +1,29 @@
+-- What is told keeps each promise of a solver.
+use Rattle.fvn_remembering.proofs.remembering.RememberingAxiomSolver.solve.Goals as goal
+
+pub returns-clause-sound : goal.returns-clause-sound
+returns-clause-sound g c = c.in_ok-solved.ensures.sound
+
+pub returns-clause-drawn : goal.returns-clause-drawn
+returns-clause-drawn g c = c.in_ok-solved.ensures.are_drawn
+
+pub returns-clause-binds : goal.returns-clause-binds
+returns-clause-binds g c = c.in_ok-solved.ensures.binds
+
+pub returns-clause-fresh : goal.returns-clause-fresh
+returns-clause-fresh g c = c.in_ok-solved.ensures.fresh
+
+pub returns-clause-next : goal.returns-clause-next
+returns-clause-next g c = c.in_ok-solved.ensures.next
+
+pub returns-clause-bounded : goal.returns-clause-bounded
+returns-clause-bounded g c = c.in_ok-solved.ensures.bounded
+
+pub returns-clause-apart : goal.returns-clause-apart
+returns-clause-apart g c = c.in_ok-solved.ensures.apart
+
+pub returns-clause-complete : goal.returns-clause-complete
+returns-clause-complete g c = c.in_ok-solved.ensures.complete
+
+pub returns-clause-cause : goal.returns-clause-cause
+returns-clause-cause g c = c.in_ok-solved.ensures.cause
