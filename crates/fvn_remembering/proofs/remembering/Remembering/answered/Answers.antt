@@ -5,8 +5,8 @@ use Rattle.fvn_remembering.specs.declared.keeping.TheConstants.{FIRST}
 use Rattle.fvn_remembering.specs.Answers.{pair_of, IsAnswer}
 use Rattle.fvn_remembering.proofs.remembering.Remembering.answered.Goals as goal
 
-pub returns-in-Some-kept : goal.returns-in-Some-kept
-returns-in-Some-kept g c =
+pub returns-in-Some : goal.returns-in-Some
+returns-in-Some g c =
     subst (λ (p : Pairs). IsAnswer (g.S.Solves.solving c.args.self.now.solver.now) (g.S.Solves.drawn c.args.self.now.solver.now) FIRST p c.in-Some.kept)
     (sym c.requires.is) c.in-Some.ensures
 

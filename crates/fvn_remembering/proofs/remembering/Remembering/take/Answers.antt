@@ -8,7 +8,7 @@ use Rattle.fvn_remembering.proofs.Told.{kept_as_told}
 use Rattle.fvn_remembering.proofs.remembering.Remembering.take.Goals as goal
 
 pub keep-requires-clause-kept : goal.keep-requires-clause-kept
-keep-requires-clause-kept g c κs within =
+keep-requires-clause-kept g c =
     let s = g.S.Solves.solving c.args.self.now.solver.now in
     let drawn = g.S.Solves.drawn c.args.self.now.solver.now in
     let r = c.args.solved.now in

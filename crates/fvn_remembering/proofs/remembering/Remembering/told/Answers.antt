@@ -6,10 +6,10 @@ use Rattle.fvn_remembering.proofs.remembering.Remembering.told.Goals as goal
 
 pub answered-requires-clause-given : goal.answered-requires-clause-given
 answered-requires-clause-given g c =
-    let low : c.args.first ≤ FIRST = omega (arith, c.if-first.false) in
+    let low : c.args.first ≤ FIRST = omega (arith, c.if-first-gt-FIRST.false) in
     given_later _ c.args.problem.now c.args.first low c.requires
 
 pub returns : goal.returns
 returns g c =
-    let low : c.args.first ≤ FIRST = omega (arith, c.if-first.false) in
+    let low : c.args.first ≤ FIRST = omega (arith, c.if-first-gt-FIRST.false) in
     answer_earlier _ c.args.problem.now c.args.first low (g.S.Solves.solving c.args.self.now.solver.now) refl (g.S.Solves.drawn c.args.self.now.solver.now) c.in_ok-answer.answer c.in_ok-answer.ensures
