@@ -8,7 +8,7 @@ use Rattle.fvn_remembering.proofs.remembering.Remembering.answered.Goals as goal
 pub returns-in-Some : goal.returns-in-Some
 returns-in-Some g c =
     subst (λ (p : Pairs). IsAnswer (g.S.Solves.solving c.args.self.now.solver.now) (g.S.Solves.drawn c.args.self.now.solver.now) FIRST p c.in-Some.kept)
-    (sym c.requires.is) c.in-Some.ensures
+    (sym c.requires.is) (rw c.in-Some.is at c.in_ok-found.ensures)
 
 pub take-requires : goal.take-requires
 take-requires g c =
