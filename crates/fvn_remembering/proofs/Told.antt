@@ -1,20 +1,15 @@
 -- Answers with later numbers than asked for, and what is kept of an answer.
-use Rattle.std.proofs.Common.{◌≡◌, ◌≤◌, ◌<◌, ℕ, true, refl, sym, ap, subst, Some, arith, All}
-use Rattle.std.specs.Prelude.{Contains}
-use Rattle.fvn_base.specs.declared.limits.TheConstants.{FIRST_FRESH}
+use Rattle.std.proofs.Common.{◌≡◌, ◌≤◌, ℕ, sym, subst, arith}
 use Rattle.fvn_terms.specs.declared.declarations.Declarations.{Declarations}
-use Rattle.fvn_terms.specs.Substitution.{Substitution, Occurs}
+use Rattle.fvn_terms.specs.Substitution.{Substitution}
 use Rattle.fvn_terms.specs.Unifiers.{Problem}
-use Rattle.fvn_forms.specs.Flat.{FlatTerm, plain}
-use Rattle.fvn_flat.specs.Bindings.{Bindings, value}
-use Rattle.fvn_flat.specs.Problems.{variables_of}
-use Rattle.fvn_flat.specs.Solving.{IsGiven, IsNumbered, AreNumbered, problem_of}
+use Rattle.fvn_flat.specs.Solving.{IsGiven, AreNumbered}
 use Rattle.fvn_flat.specs.declared.solver.Pairs.{Pairs}
 use Rattle.fvn_flat.specs.declared.solver.Solved.{Solved}
 use Rattle.fvn_flat.specs.declared.solver.SolveEnd.TheVariants.{Complete}
 use Rattle.fvn_remembering.specs.declared.answer.Answer.{Answer}
 use Rattle.fvn_remembering.specs.declared.keeping.TheConstants.{FIRST}
-use Rattle.fvn_remembering.specs.Answers.{Solving, pair_of, told_of, IsAnswer, IsKept}
+use Rattle.fvn_remembering.specs.Answers.{Solving, pair_of, IsAnswer, IsKept}
 
 module _ (d : Declarations) (given : Pairs) (first : ℕ) (low : first ≤ FIRST) where
   -- what may be asked from one number on may be asked from a later one on

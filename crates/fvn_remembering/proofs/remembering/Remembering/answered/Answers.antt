@@ -2,7 +2,7 @@
 use Rattle.std.proofs.Common.{sym, subst}
 use Rattle.fvn_flat.specs.declared.solver.Pairs.{Pairs}
 use Rattle.fvn_remembering.specs.declared.keeping.TheConstants.{FIRST}
-use Rattle.fvn_remembering.specs.Answers.{pair_of, IsAnswer}
+use Rattle.fvn_remembering.specs.Answers.{IsAnswer}
 use Rattle.fvn_remembering.proofs.remembering.Remembering.answered.Goals as goal
 
 pub returns-in-Some : goal.returns-in-Some

@@ -1,7 +1,6 @@
 -- What is kept is the answer as it was told.
-use Rattle.std.proofs.Common.{◌≡◌, refl, sym, ◌∙◌, subst}
+use Rattle.std.proofs.Common.{refl, sym, ◌∙◌, subst}
 use Rattle.fvn_forms.specs.Flat.{FlatTerm}
-use Rattle.fvn_flat.specs.declared.solver.Solved.{Solved}
 use Rattle.fvn_remembering.specs.declared.keeping.TheConstants.{FIRST}
 use Rattle.fvn_remembering.specs.Answers.{pair_of, IsAnswer}
 use Rattle.fvn_remembering.proofs.Told.{kept_as_told}
