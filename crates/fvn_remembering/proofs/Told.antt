@@ -1,5 +1,6 @@
 -- Answers with later numbers than asked for, and what is kept of an answer.
-use Rattle.std.proofs.Common.{◌≡◌, ◌≤◌, ℕ, sym, subst, arith}
+use Rattle.std.proofs.Common.{◌≡◌, ◌≤◌, ◌∙◌, ℕ, List, Some, sym, subst, arith}
+use Rattle.std.specs.Prelude.{◌↔◌, Option}
 use Rattle.fvn_terms.specs.declared.declarations.Declarations.{Declarations}
 use Rattle.fvn_terms.specs.Substitution.{Substitution}
 use Rattle.fvn_terms.specs.Unifiers.{Problem}
@@ -42,3 +43,7 @@ module _ (d : Declarations) (given : Pairs) (first : ℕ) (low : first ≤ FIRST
 pub kept_as_told : (s : Solving) (drawn : Problem → Substitution → Type 0) (r : Solved) (answer : Answer) → r.end ≡ Complete → answer.unifiers ≡ r.unifiers → answer.next_fresh ≡ r.next_fresh → IsAnswer s drawn FIRST (pair_of answer.first answer.second) r → IsKept s drawn answer
 kept_as_told s drawn r answer ended unifiers next a =
     subst (λ (x : Solved). IsAnswer s drawn FIRST (pair_of answer.first answer.second) x) (λ i. record { unifiers = sym unifiers i; next_fresh = sym next i; end = ended i }) a
+
+-- what holds for the value that is named holds for each that is
+pub named_one : {S : Type 0} (Holds : S → Answer → Type 0) (o : Option S) (a : S) → o ≡ Some a → (tag : List ℕ) (answer : Answer) → ((s : S) → o ≡ Some s → Holds s answer) ↔ Holds a answer
+named_one {S} Holds o a is tag answer = (λ h. h a is, λ k s e. subst (λ (z : S). Holds z answer) (let w : Some a ≡ Some s = sym is ∙ e in cc) k)

@@ -1,5 +1,5 @@
 -- What a solver promises of one answer, and which answers are kept.
-use Rattle.std.specs.Prelude.{◌≤◌, ℕ, [], ◌∷◌}
+use Rattle.std.specs.Prelude.{◌≤◌, ◌↔◌, ℕ, List, [], ◌∷◌}
 use Rattle.fvn_base.specs.declared.limits.TheConstants.{NEXT_FRESH}
 use Rattle.fvn_terms.specs.declared.declarations.Declarations.{Declarations}
 use Rattle.fvn_terms.specs.Substitution.{Substitution}
@@ -45,3 +45,7 @@ told_of answer = record { unifiers = answer.unifiers; next_fresh = answer.next_f
 -- a solver promises it of the problem for which it is kept
 abbrev pub IsKept : Solving → (Problem → Substitution → Type 0) → Answer → Type 0
 IsKept s drawn answer = IsAnswer s drawn FIRST (pair_of answer.first answer.second) (told_of answer)
+
+-- what holds of what is in slots is that a solver promises it
+abbrev pub HoldsAnswersOf : Solving → (Problem → Substitution → Type 0) → (List ℕ → Answer → Type 0) → Type 0
+HoldsAnswersOf s drawn Holds = (tag : List ℕ) (answer : Answer) → Holds tag answer ↔ IsKept s drawn answer

@@ -1,12 +1,12 @@
 //! Where answers are kept: slots that any thread may write, each once.
 ghost use Rattle.std.specs.Prelude.{◌≡◌, Option, Some, IfOk, IfSome};
-ghost use Rattle.fvn_remembering.specs.Answers.{pair_of, IsAnswer, IsKept};
+ghost use Rattle.fvn_remembering.specs.Answers.{solving, pair_of, IsAnswer, IsKept, HoldsAnswersOf};
 
 use crate::answer::Answer;
 use crate::solves::Solves;
 use boxcar::slot::{OnceSlot, SlotRule};
 use boxcar::tag::Tag;
-use fvn_flat::{Flat, Solved};
+use fvn_flat::{AxiomSolver, Flat, Solved};
 use fvn_terms::NoMemory;
 use std::alloc::Global;
 use std::marker::{Brand, PhantomData};
@@ -30,20 +30,20 @@ impl<S> Named<S> for Brand {
 }
 
 // What is known of a kept answer: the solver that is meant promises it.
-pub(crate) struct Promised<S, N> {
-    solver: PhantomData<S>,
+pub(crate) struct Promised<A, N> {
+    solver: PhantomData<A>,
     name: PhantomData<N>,
 }
 
-impl<S: Solves, N: Named<S>> SlotRule<Answer> for Promised<S, N> {
-    ghost holds = { λ _ answer. (s : S) → N.value ≡ Some s
-        → IsKept (S.solving s) (S.drawn s) answer };
+impl<A: AxiomSolver, N: Named<A>> SlotRule<Answer> for Promised<A, N> {
+    ghost holds = { λ _ answer. (s : A) → N.value ≡ Some s
+        → IsKept (solving (A.signature s) (A.most_unifiers s) (A.most_symbols s)) (A.drawn s) answer };
 }
 
 /// Slots without an answer.
-pub(crate) fn no_answers<S: Solves, N: Named<S>>(
+pub(crate) fn no_answers<P: SlotRule<Answer>>(
     alloc: Global,
-) -> Result<Vec<OnceSlot<Answer, Promised<S, N>>>, NoMemory> {
+) -> Result<Vec<OnceSlot<Answer, P>>, NoMemory> {
     let mut slots = Vec::with_capacity(alloc, ANSWERS)?;
     for _ in 0..ANSWERS {
         slots.push(OnceSlot::new(&Tag::empty()))?;
@@ -52,26 +52,29 @@ pub(crate) fn no_answers<S: Solves, N: Named<S>>(
 }
 
 // The answer in the slot, which the solver promises.
-fn kept_in<'s, S: Solves, N: Named<S>>(
+fn kept_in<'s, S: Solves, P: SlotRule<Answer>>(
     _solver: &S,
-    slot: &'s OnceSlot<Answer, Promised<S, N>>,
+    slot: &'s OnceSlot<Answer, P>,
 ) -> Option<&'s Answer>
-    requires { N.value ≡ Some _solver.now }
+    requires { HoldsAnswersOf (S.solving _solver.now) (S.drawn _solver.now) P.holds }
     ensures { IfSome result (λ answer.
         IsKept (S.solving _solver.now) (S.drawn _solver.now) answer.now) }
 {
-    slot.get()
+    let Some(answer) = slot.get() else {
+        return None;
+    };
+    Some(answer)
 }
 
 /// The answer that is kept for the pair of these two forms, where there is one.
-pub(crate) fn recalled<S: Solves, N: Named<S>>(
+pub(crate) fn recalled<S: Solves, P: SlotRule<Answer>>(
     alloc: Global,
     solver: &S,
-    slots: &[OnceSlot<Answer, Promised<S, N>>],
+    slots: &[OnceSlot<Answer, P>],
     t: &Flat,
     u: &Flat,
 ) -> Result<Option<Solved>, NoMemory>
-    requires { N.value ≡ Some solver.now }
+    requires { HoldsAnswersOf (S.solving solver.now) (S.drawn solver.now) P.holds }
     ensures { IfOk result (λ found. IfSome found
         (IsAnswer (S.solving solver.now) (S.drawn solver.now) FIRST (pair_of t.now u.now))) }
 {
@@ -89,12 +92,12 @@ pub(crate) fn recalled<S: Solves, N: Named<S>>(
 }
 
 // The answer again, where the slot has one already.
-fn offered<S: Solves, N: Named<S>>(
+fn offered<S: Solves, P: SlotRule<Answer>>(
     _solver: &S,
-    slot: &OnceSlot<Answer, Promised<S, N>>,
+    slot: &OnceSlot<Answer, P>,
     answer: Answer,
 ) -> Option<Answer>
-    requires named { N.value ≡ Some _solver.now }
+    requires rule { HoldsAnswersOf (S.solving _solver.now) (S.drawn _solver.now) P.holds }
     requires kept { IsKept (S.solving _solver.now) (S.drawn _solver.now) answer }
     ensures { IfSome result (λ back. back ≡ answer) }
 {
@@ -105,12 +108,12 @@ fn offered<S: Solves, N: Named<S>>(
 }
 
 /// Keeps the answer in the first slot without one; where there is none, it is not kept.
-pub(crate) fn keep<S: Solves, N: Named<S>>(
+pub(crate) fn keep<S: Solves, P: SlotRule<Answer>>(
     solver: &S,
-    slots: &[OnceSlot<Answer, Promised<S, N>>],
+    slots: &[OnceSlot<Answer, P>],
     answer: Answer,
 )
-    requires named { N.value ≡ Some solver.now }
+    requires rule { HoldsAnswersOf (S.solving solver.now) (S.drawn solver.now) P.holds }
     requires kept { IsKept (S.solving solver.now) (S.drawn solver.now) answer }
 {
     let mut rest = answer;

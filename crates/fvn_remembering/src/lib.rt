@@ -4,9 +4,9 @@
 mod answer;
 mod copying;
 mod keeping;
+mod recalling;
 mod remembering;
 mod solves;
 
 pub use keeping::Named;
 pub use remembering::Remembering;
-pub use solves::{Asking, Solves};

@@ -10,7 +10,7 @@ use fvn_terms::NoMemory;
 use std::alloc::Global;
 
 /// What a solver modulo the axioms promises, also one that is not shared between threads.
-pub trait Solves {
+pub(crate) trait Solves {
     /// The signature in which it solves, and its limits.
     ghost solving: { Self → Solving };
 
@@ -25,8 +25,8 @@ pub trait Solves {
 
 /// A solver that may be shared, as one whose answers may be kept.
 #[derive(Drop)]
-pub struct Asking<'a, A: AxiomSolver> {
-    pub solver: &'a A,
+pub(crate) struct Asking<'a, A: AxiomSolver> {
+    pub(crate) solver: &'a A,
 }
 
 impl<A: AxiomSolver> Solves for Asking<'_, A> {
