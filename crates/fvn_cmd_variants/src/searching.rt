@@ -5,7 +5,7 @@ ghost use Rattle.fvn_cmd_exploring.specs.Searches.{IsExploredBy, IsModuleSolver,
 
 use fvn_base::limits::{TERM_SYMBOLS, UNIFIERS};
 use fvn_closure::explorations_are_lawful;
-use fvn_cmd_exploring::{Asking, Named, Narrower, Remembering, Search, Solves};
+use fvn_cmd_exploring::{Named, Narrower, Remembering, Search};
 use fvn_cmd_unify::{AxiomUnify, SolveLimits};
 use fvn_cover::Gate;
 use fvn_exploring::Explored;
@@ -52,23 +52,23 @@ fn searched_by<R: Threads + Sync, G: Gate, A: AxiomSolver>(
 }
 
 // The same, by a solver that keeps its answers.
-fn searched_keeping<N: Named<S>, R: Threads + Sync, G: Gate, S: Solves + Sync>(
+fn searched_keeping<N: Named<A> + Send + Sync, R: Threads + Sync, G: Gate, A: AxiomSolver>(
     rt: &R,
     gate: &G,
     search: &Search<'_>,
-    solver: &S,
+    solver: &A,
     start: &[Flat],
 ) -> Result<Explored, NoMemory>
     requires named { N.value ≡ Some solver.now }
     requires search { IsSearchable
         search.now.declared.now search.now.rules.now search.now.reach search.now.workers }
     requires start { IsStartable search.now.declared.now.signature start.now }
-    requires solver { IsModuleSolver search.now.declared.now (S.solving solver.now).declarations
-        (S.solving solver.now).most_unifiers (S.solving solver.now).most_symbols }
+    requires solver { IsModuleSolver search.now.declared.now
+        (A.signature solver.now) (A.most_unifiers solver.now) (A.most_symbols solver.now) }
     ensures { IfOk result (IsExploredBy search.now.declared.now search.now.reach
-        (S.drawn solver.now) start.now) }
+        (A.drawn solver.now) start.now) }
 {
-    let keeping = Remembering::<S, N>::new(search.alloc, solver)?;
+    let keeping = Remembering::<A, N>::new(search.alloc, solver)?;
     let x = searched_by(rt, gate, search, &keeping, start)?;
     Ok(x)
 }
@@ -90,7 +90,6 @@ pub(crate) fn searched<R: Threads + Sync, G: Gate>(
         size: TERM_SYMBOLS,
     };
     let solver = AxiomUnify::new(search.declared.signature(), kept);
-    let asking = Asking { solver: &solver };
-    let x = searched_keeping::<Brand, R, G, _>(rt, gate, search, &asking, start)?;
+    let x = searched_keeping::<Brand, R, G, _>(rt, gate, search, &solver, start)?;
     Ok(x)
 }

@@ -5,7 +5,7 @@ ghost use Rattle.fvn_cmd_vunify.specs.inner.Steps.{AreSides, IsSolvedBy, IsSolve
 
 use fvn_base::limits::{TERM_SYMBOLS, UNIFIERS};
 use fvn_closure::explorations_are_lawful;
-use fvn_cmd_exploring::{Asking, Named, Narrower, Remembering, Search, Solves};
+use fvn_cmd_exploring::{Named, Narrower, Remembering, Search};
 use fvn_cmd_unify::{AxiomUnify, SolveLimits};
 use fvn_cover::Gate;
 use fvn_flat::{AxiomSolver, Pairs};
@@ -54,23 +54,23 @@ fn solved_by<R: Threads + Sync, G: Gate, A: AxiomSolver>(
 }
 
 // The same, by a solver that keeps its answers.
-fn solved_keeping<N: Named<S>, R: Threads + Sync, G: Gate, S: Solves + Sync>(
+fn solved_keeping<N: Named<A> + Send + Sync, R: Threads + Sync, G: Gate, A: AxiomSolver>(
     rt: &R,
     gate: &G,
     search: &Search<'_>,
-    solver: &S,
+    solver: &A,
     given: Pairs,
 ) -> Result<SolvedModulo, NoMemory>
     requires named { N.value ≡ Some solver.now }
     requires search { IsSearchable
         search.now.declared.now search.now.rules.now search.now.reach search.now.workers }
     requires given { AreSides search.now.declared.now.signature given.pairs }
-    requires solver { IsModuleSolver search.now.declared.now (S.solving solver.now).declarations
-        (S.solving solver.now).most_unifiers (S.solving solver.now).most_symbols }
+    requires solver { IsModuleSolver search.now.declared.now
+        (A.signature solver.now) (A.most_unifiers solver.now) (A.most_symbols solver.now) }
     ensures { IfOk result (IsSolvedBy search.now.declared.now search.now.reach
-        (S.drawn solver.now) given.pairs) }
+        (A.drawn solver.now) given.pairs) }
 {
-    let keeping = Remembering::<S, N>::new(search.alloc, solver)?;
+    let keeping = Remembering::<A, N>::new(search.alloc, solver)?;
     let r = solved_by(rt, gate, search, &keeping, given)?;
     Ok(r)
 }
@@ -92,7 +92,6 @@ pub(crate) fn solved<R: Threads + Sync, G: Gate>(
         size: TERM_SYMBOLS,
     };
     let solver = AxiomUnify::new(search.declared.signature(), kept);
-    let asking = Asking { solver: &solver };
-    let r = solved_keeping::<Brand, R, G, _>(rt, gate, search, &asking, given)?;
+    let r = solved_keeping::<Brand, R, G, _>(rt, gate, search, &solver, given)?;
     Ok(r)
 }
