@@ -2,4 +2,4 @@
 use Rattle.fvn_remembering.proofs.keeping.offered.Goals as goal
 
 pub set_written-requires : goal.set_written-requires
-set_written-requires g c κs within = (c.requires.rule _ c.args.answer).1 c.requires.kept
+set_written-requires g c = (c.requires.rule _ c.args.answer).1 c.requires.kept

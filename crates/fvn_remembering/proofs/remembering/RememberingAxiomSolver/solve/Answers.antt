@@ -4,7 +4,7 @@ use Rattle.fvn_remembering.proofs.Told.{named_one}
 use Rattle.fvn_remembering.proofs.remembering.RememberingAxiomSolver.solve.Goals as goal
 
 pub told-requires-clause-rule : goal.told-requires-clause-rule
-told-requires-clause-rule g c κs within =
+told-requires-clause-rule g c =
     named_one (λ s answer. IsKept (solving (g.A.AxiomSolver.signature s) (g.A.AxiomSolver.most_unifiers s) (g.A.AxiomSolver.most_symbols s)) (g.A.AxiomSolver.drawn s) answer) _ c.args.self.now.solver.now c.args.self.now.named
 
 pub returns-clause-sound : goal.returns-clause-sound
