@@ -9,5 +9,6 @@ mod search;
 pub use answering::answer_after;
 pub use ends::{end_told, loss_after};
 pub use fvn_narrow::Narrower;
+pub use fvn_remembering::{Named, Remembering};
 pub use loading::{Loaded, load_with_rules};
 pub use search::Search;

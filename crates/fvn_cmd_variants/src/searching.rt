@@ -1,11 +1,11 @@
 //! The search for variants of forms in a module.
-ghost use Rattle.std.specs.Prelude.{IfOk};
+ghost use Rattle.std.specs.Prelude.{◌≡◌, Some, IfOk};
 ghost use Rattle.fvn_fold.specs.Starts.{IsStartable};
 ghost use Rattle.fvn_cmd_exploring.specs.Searches.{IsExploredBy, IsModuleSolver, IsSearchable, IsSearched};
 
 use fvn_base::limits::{TERM_SYMBOLS, UNIFIERS};
 use fvn_closure::explorations_are_lawful;
-use fvn_cmd_exploring::{Narrower, Search};
+use fvn_cmd_exploring::{Named, Narrower, Remembering, Search};
 use fvn_cmd_unify::{AxiomUnify, SolveLimits};
 use fvn_cover::Gate;
 use fvn_exploring::Explored;
@@ -13,6 +13,7 @@ use fvn_flat::{AxiomSolver, Flat};
 use fvn_fold::explore;
 use fvn_terms::NoMemory;
 use fvn_theory::Bounds;
+use std::marker::Brand;
 use std::thread::Threads;
 
 // What is found of the variants of forms by any solver modulo the axioms.
@@ -50,6 +51,28 @@ fn searched_by<R: Threads + Sync, G: Gate, A: AxiomSolver>(
     Ok(x)
 }
 
+// The same, by a solver that keeps its answers.
+fn searched_keeping<N: Named<A> + Send + Sync, R: Threads + Sync, G: Gate, A: AxiomSolver>(
+    rt: &R,
+    gate: &G,
+    search: &Search<'_>,
+    solver: &A,
+    start: &[Flat],
+) -> Result<Explored, NoMemory>
+    requires named { N.value ≡ Some solver.now }
+    requires search { IsSearchable
+        search.now.declared.now search.now.rules.now search.now.reach search.now.workers }
+    requires start { IsStartable search.now.declared.now.signature start.now }
+    requires solver { IsModuleSolver search.now.declared.now
+        (A.signature solver.now) (A.most_unifiers solver.now) (A.most_symbols solver.now) }
+    ensures { IfOk result (IsExploredBy search.now.declared.now search.now.reach
+        (A.drawn solver.now) start.now) }
+{
+    let keeping = Remembering::<A, N>::new(search.alloc, solver)?;
+    let x = searched_by(rt, gate, search, &keeping, start)?;
+    Ok(x)
+}
+
 // What is found of the variants of forms, and what is known of it.
 pub(crate) fn searched<R: Threads + Sync, G: Gate>(
     rt: &R,
@@ -67,6 +90,6 @@ pub(crate) fn searched<R: Threads + Sync, G: Gate>(
         size: TERM_SYMBOLS,
     };
     let solver = AxiomUnify::new(search.declared.signature(), kept);
-    let x = searched_by(rt, gate, search, &solver, start)?;
+    let x = searched_keeping::<Brand, R, G, _>(rt, gate, search, &solver, start)?;
     Ok(x)
 }

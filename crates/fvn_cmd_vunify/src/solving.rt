@@ -1,11 +1,11 @@
 //! The search for unifiers in the theory of a module.
-ghost use Rattle.std.specs.Prelude.{IfOk};
+ghost use Rattle.std.specs.Prelude.{◌≡◌, Some, IfOk};
 ghost use Rattle.fvn_cmd_exploring.specs.Searches.{IsModuleSolver, IsSearchable};
 ghost use Rattle.fvn_cmd_vunify.specs.inner.Steps.{AreSides, IsSolvedBy, IsSolvedIn};
 
 use fvn_base::limits::{TERM_SYMBOLS, UNIFIERS};
 use fvn_closure::explorations_are_lawful;
-use fvn_cmd_exploring::{Narrower, Search};
+use fvn_cmd_exploring::{Named, Narrower, Remembering, Search};
 use fvn_cmd_unify::{AxiomUnify, SolveLimits};
 use fvn_cover::Gate;
 use fvn_flat::{AxiomSolver, Pairs};
@@ -13,6 +13,7 @@ use fvn_fold::explore;
 use fvn_terms::NoMemory;
 use fvn_theory::Bounds;
 use fvn_vunify::{SolvedModulo, sides_of, variant_unify};
+use std::marker::Brand;
 use std::thread::Threads;
 
 // What is found of the unifiers of pairs by any solver modulo the axioms.
@@ -52,6 +53,28 @@ fn solved_by<R: Threads + Sync, G: Gate, A: AxiomSolver>(
     Ok(r)
 }
 
+// The same, by a solver that keeps its answers.
+fn solved_keeping<N: Named<A> + Send + Sync, R: Threads + Sync, G: Gate, A: AxiomSolver>(
+    rt: &R,
+    gate: &G,
+    search: &Search<'_>,
+    solver: &A,
+    given: Pairs,
+) -> Result<SolvedModulo, NoMemory>
+    requires named { N.value ≡ Some solver.now }
+    requires search { IsSearchable
+        search.now.declared.now search.now.rules.now search.now.reach search.now.workers }
+    requires given { AreSides search.now.declared.now.signature given.pairs }
+    requires solver { IsModuleSolver search.now.declared.now
+        (A.signature solver.now) (A.most_unifiers solver.now) (A.most_symbols solver.now) }
+    ensures { IfOk result (IsSolvedBy search.now.declared.now search.now.reach
+        (A.drawn solver.now) given.pairs) }
+{
+    let keeping = Remembering::<A, N>::new(search.alloc, solver)?;
+    let r = solved_by(rt, gate, search, &keeping, given)?;
+    Ok(r)
+}
+
 // What is found of the unifiers of pairs in the theory of the module.
 pub(crate) fn solved<R: Threads + Sync, G: Gate>(
     rt: &R,
@@ -69,6 +92,6 @@ pub(crate) fn solved<R: Threads + Sync, G: Gate>(
         size: TERM_SYMBOLS,
     };
     let solver = AxiomUnify::new(search.declared.signature(), kept);
-    let r = solved_by(rt, gate, search, &solver, given)?;
+    let r = solved_keeping::<Brand, R, G, _>(rt, gate, search, &solver, given)?;
     Ok(r)
 }

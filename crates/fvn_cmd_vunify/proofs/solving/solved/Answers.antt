@@ -4,14 +4,14 @@ use Rattle.fvn_cmd_exploring.proofs.Settings.{drawn_is}
 use Rattle.fvn_cmd_vunify.proofs.Explored.{solved_by_own}
 use Rattle.fvn_cmd_vunify.proofs.solving.solved.Goals as goal
 
-pub solved_by-requires-clause-search : goal.solved_by-requires-clause-search
-solved_by-requires-clause-search g c κs within = c.requires.search
+pub solved_keeping-requires-clause-search : goal.solved_keeping-requires-clause-search
+solved_keeping-requires-clause-search g c κs within = c.requires.search
 
-pub solved_by-requires-clause-given : goal.solved_by-requires-clause-given
-solved_by-requires-clause-given g c κs within = c.requires.given
+pub solved_keeping-requires-clause-given : goal.solved_keeping-requires-clause-given
+solved_keeping-requires-clause-given g c κs within = c.requires.given
 
-pub solved_by-requires-clause-solver : goal.solved_by-requires-clause-solver
-solved_by-requires-clause-solver g c κs within = record { signature = c.new-solver.ensures.declarations ∙ c.signature.ensures; unifiers_are = c.new-solver.ensures.unifiers; symbols_are = c.new-solver.ensures.size }
+pub solved_keeping-requires-clause-solver : goal.solved_keeping-requires-clause-solver
+solved_keeping-requires-clause-solver g c κs within = record { signature = c.new-solver.ensures.declarations ∙ c.signature.ensures; unifiers_are = c.new-solver.ensures.unifiers; symbols_are = c.new-solver.ensures.size }
 
 pub returns : goal.returns
 returns g c =

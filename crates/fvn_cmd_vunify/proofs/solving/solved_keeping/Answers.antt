@@ -1,0 +1,14 @@
+-- The solver that keeps answers has the signature, the limits and the draws of the one that it asks.
+use Rattle.std.proofs.Common.{sym, subst}
+use Rattle.fvn_cmd_exploring.specs.Searches.{IsModuleSolver}
+use Rattle.fvn_cmd_vunify.proofs.Explored.{solved_along}
+use Rattle.fvn_cmd_vunify.proofs.solving.solved_keeping.Goals as goal
+
+pub solved_by-requires-clause-solver : goal.solved_by-requires-clause-solver
+solved_by-requires-clause-solver g c κs within =
+    subst (λ s. IsModuleSolver c.args.search.now.declared.now (g.A.AxiomSolver.signature s) (g.A.AxiomSolver.most_unifiers s) (g.A.AxiomSolver.most_symbols s))
+    (sym c.in_ok-keeping.ensures) c.requires.solver
+
+pub returns : goal.returns
+returns g c =
+    solved_along (g.A.AxiomSolver.drawn) _ _ c.in_ok-keeping.ensures c.args.search.now.declared.now c.args.search.now.reach c.args.given.pairs c.in_ok-r.r c.in_ok-r.ensures

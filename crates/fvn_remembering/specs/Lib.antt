@@ -1,0 +1,2 @@
+-- The words of kept answers.
+pub mod Answers
