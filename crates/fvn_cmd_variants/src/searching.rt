@@ -51,6 +51,27 @@ fn searched_by<R: Threads + Sync, G: Gate, A: AxiomSolver>(
     Ok(x)
 }
 
+// The same, by a solver that keeps its answers, which is at hand.
+fn searched_with<N: Named<A> + Send + Sync, R: Threads + Sync, G: Gate, A: AxiomSolver>(
+    rt: &R,
+    gate: &G,
+    search: &Search<'_>,
+    keeping: &Remembering<'_, A, N>,
+    start: &[Flat],
+) -> Result<Explored, NoMemory>
+    requires search { IsSearchable
+        search.now.declared.now search.now.rules.now search.now.reach search.now.workers }
+    requires start { IsStartable search.now.declared.now.signature start.now }
+    requires solver { IsModuleSolver search.now.declared.now
+        (A.signature keeping.now.solver.now) (A.most_unifiers keeping.now.solver.now)
+        (A.most_symbols keeping.now.solver.now) }
+    ensures { IfOk result (IsExploredBy search.now.declared.now search.now.reach
+        (A.drawn keeping.now.solver.now) start.now) }
+{
+    let x = searched_by(rt, gate, search, keeping, start)?;
+    Ok(x)
+}
+
 // The same, by a solver that keeps its answers.
 fn searched_keeping<N: Named<A> + Send + Sync, R: Threads + Sync, G: Gate, A: AxiomSolver>(
     rt: &R,
@@ -69,7 +90,7 @@ fn searched_keeping<N: Named<A> + Send + Sync, R: Threads + Sync, G: Gate, A: Ax
         (A.drawn solver.now) start.now) }
 {
     let keeping = Remembering::<A, N>::new(search.alloc, solver)?;
-    let x = searched_by(rt, gate, search, &keeping, start)?;
+    let x = searched_with(rt, gate, search, &keeping, start)?;
     Ok(x)
 }
 

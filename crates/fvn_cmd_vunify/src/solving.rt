@@ -53,6 +53,27 @@ fn solved_by<R: Threads + Sync, G: Gate, A: AxiomSolver>(
     Ok(r)
 }
 
+// The same, by a solver that keeps its answers, which is at hand.
+fn solved_with<N: Named<A> + Send + Sync, R: Threads + Sync, G: Gate, A: AxiomSolver>(
+    rt: &R,
+    gate: &G,
+    search: &Search<'_>,
+    keeping: &Remembering<'_, A, N>,
+    given: Pairs,
+) -> Result<SolvedModulo, NoMemory>
+    requires search { IsSearchable
+        search.now.declared.now search.now.rules.now search.now.reach search.now.workers }
+    requires given { AreSides search.now.declared.now.signature given.pairs }
+    requires solver { IsModuleSolver search.now.declared.now
+        (A.signature keeping.now.solver.now) (A.most_unifiers keeping.now.solver.now)
+        (A.most_symbols keeping.now.solver.now) }
+    ensures { IfOk result (IsSolvedBy search.now.declared.now search.now.reach
+        (A.drawn keeping.now.solver.now) given.pairs) }
+{
+    let r = solved_by(rt, gate, search, keeping, given)?;
+    Ok(r)
+}
+
 // The same, by a solver that keeps its answers.
 fn solved_keeping<N: Named<A> + Send + Sync, R: Threads + Sync, G: Gate, A: AxiomSolver>(
     rt: &R,
@@ -71,7 +92,7 @@ fn solved_keeping<N: Named<A> + Send + Sync, R: Threads + Sync, G: Gate, A: Axio
         (A.drawn solver.now) given.pairs) }
 {
     let keeping = Remembering::<A, N>::new(search.alloc, solver)?;
-    let r = solved_by(rt, gate, search, &keeping, given)?;
+    let r = solved_with(rt, gate, search, &keeping, given)?;
     Ok(r)
 }
 

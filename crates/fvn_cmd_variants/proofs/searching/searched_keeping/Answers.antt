@@ -3,8 +3,8 @@ use Rattle.std.proofs.Common.{sym, subst}
 use Rattle.fvn_cmd_exploring.specs.Searches.{IsExploredBy, IsModuleSolver}
 use Rattle.fvn_cmd_variants.proofs.searching.searched_keeping.Goals as goal
 
-pub searched_by-requires-clause-solver : goal.searched_by-requires-clause-solver
-searched_by-requires-clause-solver g c κs within =
+pub searched_with-requires-clause-solver : goal.searched_with-requires-clause-solver
+searched_with-requires-clause-solver g c κs within =
     subst (λ s. IsModuleSolver c.args.search.now.declared.now (g.A.AxiomSolver.signature s) (g.A.AxiomSolver.most_unifiers s) (g.A.AxiomSolver.most_symbols s))
     (sym c.in_ok-keeping.ensures) c.requires.solver
 

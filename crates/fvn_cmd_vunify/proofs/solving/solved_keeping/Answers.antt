@@ -4,8 +4,8 @@ use Rattle.fvn_cmd_exploring.specs.Searches.{IsModuleSolver}
 use Rattle.fvn_cmd_vunify.proofs.Explored.{solved_along}
 use Rattle.fvn_cmd_vunify.proofs.solving.solved_keeping.Goals as goal
 
-pub solved_by-requires-clause-solver : goal.solved_by-requires-clause-solver
-solved_by-requires-clause-solver g c κs within =
+pub solved_with-requires-clause-solver : goal.solved_with-requires-clause-solver
+solved_with-requires-clause-solver g c κs within =
     subst (λ s. IsModuleSolver c.args.search.now.declared.now (g.A.AxiomSolver.signature s) (g.A.AxiomSolver.most_unifiers s) (g.A.AxiomSolver.most_symbols s))
     (sym c.in_ok-keeping.ensures) c.requires.solver
 
