@@ -56,7 +56,7 @@ fn searched_by<R: Threads + Sync, G: Gate, A: AxiomSolver>(
 
 // What is searched in, for steps that hand it on and need not see it.
 trait Searching {
-    ghost module: { Self → Contents };
+    ghost contents: { Self → Contents };
 
     ghost reach: { Self → Reach };
 
@@ -65,14 +65,14 @@ trait Searching {
 
     fn at_hand(&self) -> Search<'_>
         requires { ready self.now }
-        ensures module { result.declared.now ≡ module self.now }
+        ensures contents { result.declared.now ≡ contents self.now }
         ensures reach { result.reach ≡ reach self.now }
         ensures searchable { IsSearchable
             result.declared.now result.rules.now result.reach result.workers };
 }
 
 impl Searching for Search<'_> {
-    ghost module = { λ s. s.declared.now };
+    ghost contents = { λ s. s.declared.now };
 
     ghost reach = { λ s. s.reach };
 
@@ -92,10 +92,10 @@ fn searched_over<T: Searching, R: Threads + Sync, G: Gate, A: AxiomSolver>(
     start: &[Flat],
 ) -> Result<Explored, NoMemory>
     requires ready { T.ready searching.now }
-    requires start { IsStartable (T.module searching.now).signature start.now }
-    requires solver { IsModuleSolver (T.module searching.now)
+    requires start { IsStartable (T.contents searching.now).signature start.now }
+    requires solver { IsModuleSolver (T.contents searching.now)
         (A.signature solver.now) (A.most_unifiers solver.now) (A.most_symbols solver.now) }
-    ensures { IfOk result (IsExploredBy (T.module searching.now) (T.reach searching.now)
+    ensures { IfOk result (IsExploredBy (T.contents searching.now) (T.reach searching.now)
         (A.drawn solver.now) start.now) }
 {
     let own = searching.at_hand();
@@ -104,7 +104,13 @@ fn searched_over<T: Searching, R: Threads + Sync, G: Gate, A: AxiomSolver>(
 }
 
 // The same, by what keeps answers: that it may be shared is shown where the module is not seen.
-fn searched_with<T: Searching, N: Named<A> + Send + Sync, R: Threads + Sync, G: Gate, A: AxiomSolver>(
+fn searched_with<
+    T: Searching,
+    N: Named<A> + Send + Sync,
+    R: Threads + Sync,
+    G: Gate,
+    A: AxiomSolver,
+>(
     rt: &R,
     gate: &G,
     searching: &T,
@@ -112,11 +118,11 @@ fn searched_with<T: Searching, N: Named<A> + Send + Sync, R: Threads + Sync, G: 
     start: &[Flat],
 ) -> Result<Explored, NoMemory>
     requires ready { T.ready searching.now }
-    requires start { IsStartable (T.module searching.now).signature start.now }
-    requires solver { IsModuleSolver (T.module searching.now)
+    requires start { IsStartable (T.contents searching.now).signature start.now }
+    requires solver { IsModuleSolver (T.contents searching.now)
         (A.signature keeping.now.solver.now) (A.most_unifiers keeping.now.solver.now)
         (A.most_symbols keeping.now.solver.now) }
-    ensures { IfOk result (IsExploredBy (T.module searching.now) (T.reach searching.now)
+    ensures { IfOk result (IsExploredBy (T.contents searching.now) (T.reach searching.now)
         (A.drawn keeping.now.solver.now) start.now) }
 {
     let x = searched_over(rt, gate, searching, keeping, start)?;
@@ -124,7 +130,13 @@ fn searched_with<T: Searching, N: Named<A> + Send + Sync, R: Threads + Sync, G: 
 }
 
 // The same, by a solver whose answers are kept meanwhile.
-fn searched_keeping<T: Searching, N: Named<A> + Send + Sync, R: Threads + Sync, G: Gate, A: AxiomSolver>(
+fn searched_keeping<
+    T: Searching,
+    N: Named<A> + Send + Sync,
+    R: Threads + Sync,
+    G: Gate,
+    A: AxiomSolver,
+>(
     rt: &R,
     gate: &G,
     alloc: Global,
@@ -134,10 +146,10 @@ fn searched_keeping<T: Searching, N: Named<A> + Send + Sync, R: Threads + Sync, 
 ) -> Result<Explored, NoMemory>
     requires named { N.value ≡ Some solver.now }
     requires ready { T.ready searching.now }
-    requires start { IsStartable (T.module searching.now).signature start.now }
-    requires solver { IsModuleSolver (T.module searching.now)
+    requires start { IsStartable (T.contents searching.now).signature start.now }
+    requires solver { IsModuleSolver (T.contents searching.now)
         (A.signature solver.now) (A.most_unifiers solver.now) (A.most_symbols solver.now) }
-    ensures { IfOk result (IsExploredBy (T.module searching.now) (T.reach searching.now)
+    ensures { IfOk result (IsExploredBy (T.contents searching.now) (T.reach searching.now)
         (A.drawn solver.now) start.now) }
 {
     let keeping = Remembering::<A, N>::new(alloc, solver)?;

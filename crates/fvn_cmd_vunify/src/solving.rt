@@ -58,7 +58,7 @@ fn solved_by<R: Threads + Sync, G: Gate, A: AxiomSolver>(
 
 // What is searched in, for steps that hand it on and need not see it.
 trait Searching {
-    ghost module: { Self → Contents };
+    ghost contents: { Self → Contents };
 
     ghost reach: { Self → Reach };
 
@@ -67,14 +67,14 @@ trait Searching {
 
     fn at_hand(&self) -> Search<'_>
         requires { ready self.now }
-        ensures module { result.declared.now ≡ module self.now }
+        ensures contents { result.declared.now ≡ contents self.now }
         ensures reach { result.reach ≡ reach self.now }
         ensures searchable { IsSearchable
             result.declared.now result.rules.now result.reach result.workers };
 }
 
 impl Searching for Search<'_> {
-    ghost module = { λ s. s.declared.now };
+    ghost contents = { λ s. s.declared.now };
 
     ghost reach = { λ s. s.reach };
 
@@ -94,10 +94,10 @@ fn solved_over<T: Searching, R: Threads + Sync, G: Gate, A: AxiomSolver>(
     given: Pairs,
 ) -> Result<SolvedModulo, NoMemory>
     requires ready { T.ready searching.now }
-    requires given { AreSides (T.module searching.now).signature given.pairs }
-    requires solver { IsModuleSolver (T.module searching.now)
+    requires given { AreSides (T.contents searching.now).signature given.pairs }
+    requires solver { IsModuleSolver (T.contents searching.now)
         (A.signature solver.now) (A.most_unifiers solver.now) (A.most_symbols solver.now) }
-    ensures { IfOk result (IsSolvedBy (T.module searching.now) (T.reach searching.now)
+    ensures { IfOk result (IsSolvedBy (T.contents searching.now) (T.reach searching.now)
         (A.drawn solver.now) given.pairs) }
 {
     let own = searching.at_hand();
@@ -114,11 +114,11 @@ fn solved_with<T: Searching, N: Named<A> + Send + Sync, R: Threads + Sync, G: Ga
     given: Pairs,
 ) -> Result<SolvedModulo, NoMemory>
     requires ready { T.ready searching.now }
-    requires given { AreSides (T.module searching.now).signature given.pairs }
-    requires solver { IsModuleSolver (T.module searching.now)
+    requires given { AreSides (T.contents searching.now).signature given.pairs }
+    requires solver { IsModuleSolver (T.contents searching.now)
         (A.signature keeping.now.solver.now) (A.most_unifiers keeping.now.solver.now)
         (A.most_symbols keeping.now.solver.now) }
-    ensures { IfOk result (IsSolvedBy (T.module searching.now) (T.reach searching.now)
+    ensures { IfOk result (IsSolvedBy (T.contents searching.now) (T.reach searching.now)
         (A.drawn keeping.now.solver.now) given.pairs) }
 {
     let r = solved_over(rt, gate, searching, keeping, given)?;
@@ -126,7 +126,13 @@ fn solved_with<T: Searching, N: Named<A> + Send + Sync, R: Threads + Sync, G: Ga
 }
 
 // The same, by a solver whose answers are kept meanwhile.
-fn solved_keeping<T: Searching, N: Named<A> + Send + Sync, R: Threads + Sync, G: Gate, A: AxiomSolver>(
+fn solved_keeping<
+    T: Searching,
+    N: Named<A> + Send + Sync,
+    R: Threads + Sync,
+    G: Gate,
+    A: AxiomSolver,
+>(
     rt: &R,
     gate: &G,
     alloc: Global,
@@ -136,10 +142,10 @@ fn solved_keeping<T: Searching, N: Named<A> + Send + Sync, R: Threads + Sync, G:
 ) -> Result<SolvedModulo, NoMemory>
     requires named { N.value ≡ Some solver.now }
     requires ready { T.ready searching.now }
-    requires given { AreSides (T.module searching.now).signature given.pairs }
-    requires solver { IsModuleSolver (T.module searching.now)
+    requires given { AreSides (T.contents searching.now).signature given.pairs }
+    requires solver { IsModuleSolver (T.contents searching.now)
         (A.signature solver.now) (A.most_unifiers solver.now) (A.most_symbols solver.now) }
-    ensures { IfOk result (IsSolvedBy (T.module searching.now) (T.reach searching.now)
+    ensures { IfOk result (IsSolvedBy (T.contents searching.now) (T.reach searching.now)
         (A.drawn solver.now) given.pairs) }
 {
     let keeping = Remembering::<A, N>::new(alloc, solver)?;
