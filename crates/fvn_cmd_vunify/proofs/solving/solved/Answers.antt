@@ -4,8 +4,8 @@ use Rattle.fvn_cmd_exploring.proofs.Settings.{drawn_is}
 use Rattle.fvn_cmd_vunify.proofs.Explored.{solved_by_own}
 use Rattle.fvn_cmd_vunify.proofs.solving.solved.Goals as goal
 
-pub solved_keeping-requires-clause-search : goal.solved_keeping-requires-clause-search
-solved_keeping-requires-clause-search g c κs within = c.requires.search
+pub solved_keeping-requires-clause-ready : goal.solved_keeping-requires-clause-ready
+solved_keeping-requires-clause-ready g c κs within = c.requires.search
 
 pub solved_keeping-requires-clause-given : goal.solved_keeping-requires-clause-given
 solved_keeping-requires-clause-given g c κs within = c.requires.given
