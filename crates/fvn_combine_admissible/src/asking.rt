@@ -14,7 +14,7 @@ ghost use Rattle.fvn_combine_admissible.specs.inner.Reads.{
 
 use crate::bound::is_bound_in;
 use fvn_base::Seq;
-use fvn_combine_leaves::{Reading, Sums, is_shared};
+use fvn_combine_leaves::{Reading, Sums};
 use fvn_combine_nodes::{State, Table, has_no_identity};
 use fvn_signature::Signature;
 use fvn_terms::{NoMemory, OpId};
@@ -81,10 +81,7 @@ fn is_required(
     if !is_bound_in(reading, n, tags, sums, k) {
         return false;
     }
-    if has_no_identity(sig.axioms(sums.operator)) {
-        return true;
-    }
-    is_shared(reading, n, k)
+    has_no_identity(sig.axioms(sums.operator))
 }
 
 // For each column whether all solutions may be zero there.

@@ -7,7 +7,7 @@ ghost use Rattle.fvn_combine_candidates.specs.inner.Walking.{AreUsersBelow};
 
 use fvn_base::Seq;
 use fvn_combine_admissible::{is_shared_class, uses};
-use fvn_combine_bounds::is_narrow;
+use fvn_combine_bounds::{is_narrow, is_never_identity};
 use fvn_combine_leaves::{Reading, Sums};
 use fvn_combine_nodes::{State, Table};
 use fvn_signature::Signature;
@@ -45,7 +45,10 @@ fn may_be_sum(
     if !sorted {
         return true;
     }
-    !is_narrow(sig, table, state, sums.operator, k)
+    if !is_narrow(sig, table, state, sums.operator, k) {
+        return true;
+    }
+    !is_never_identity(sig, table, state, sums.operator, k)
 }
 
 // The sum operators that use class k and may head its value, each once.

@@ -1,5 +1,5 @@
 -- What a class is bound to at a leaf, and what that asks of the choice of minimal solutions.
-use Rattle.std.specs.Prelude.{◌≡◌, ◌≢◌, ◌⊎◌, ◌↔◌, ℕ, ◌<◌, Bool, true, false, List, length, slice_index, slice_index_or, Option, Some, AllPairs, Contains}
+use Rattle.std.specs.Prelude.{◌≡◌, ◌≢◌, ◌↔◌, ℕ, ◌<◌, Bool, true, false, List, length, slice_index, slice_index_or, Option, Some, AllPairs, Contains}
 use Rattle.fvn_terms.specs.declared.plain.OpId.{OpId}
 use Rattle.fvn_terms.specs.declared.declarations.Declarations.{Declarations}
 use Rattle.fvn_terms.specs.Signature.{axioms}
@@ -24,10 +24,10 @@ module _ (d : Declarations) (t : NodeTable) (class : ℕ → ℕ) (tag : ℕ →
     pub used : Uses d t class f k
     pub not_bound : IsBound f k → ⊥
 
-  -- the sum of f to which class k is bound has a member
+  -- class k is bound to a sum of f, which has a member, since f has no identity
   pub record IsRequired (f : OpId) (k : ℕ) : Type 0 where
     pub bound : IsBound f k
-    pub why : IsShared d t class k ⊎ HasNoIdentity (axioms d f)
+    pub no_identity : HasNoIdentity (axioms d f)
 
   -- the constant columns for f, and for each column whether it may be zero
   pub record AreAsked (f : OpId) (columns constants : List ℕ) (may_be_zero : List Bool) : Type 0 where

@@ -6,6 +6,7 @@ ghost use Rattle.fvn_combine_leaves.specs.Users.{IsWholeSums, IsWhole, IsSharedI
 
 use fvn_combine_leaves::{Reading, Sums, is_shared, is_user};
 use fvn_combine_nodes::{State, Table};
+use fvn_signature::Signature;
 use fvn_terms::OpId;
 
 // A question whether class k has f's identity.
@@ -27,8 +28,32 @@ fn open_identity(table: &Table, state: &State, f: OpId, k: usize) -> Option<(usi
     None
 }
 
-// A question whether class k has the identity of an operator that uses it.
-fn open_of_class(table: &Table, state: &State, sums: &[Sums], k: usize) -> Option<(usize, usize)>
+// Whether the operators have the same identity, or none.
+fn have_one_identity(sig: &Signature, f: OpId, g: OpId) -> bool
+{
+    sig.axioms(f).identity() == sig.axioms(g).identity()
+}
+
+// Whether another operator with the same identity uses class k.
+fn has_twin(sig: &Signature, sums: &[Sums], f: OpId, k: usize) -> bool
+    requires { All (λ e. length e.used ≡ length e.columns) sums.now }
+{
+    for s in sums {
+        if s.operator == f {
+            continue;
+        }
+        if !have_one_identity(sig, s.operator, f) {
+            continue;
+        }
+        if is_user(s, k) {
+            return true;
+        }
+    }
+    false
+}
+
+// A question whether class k has the identity of an operator that uses it, where another one has it too.
+fn open_of_class(sig: &Signature, table: &Table, state: &State, sums: &[Sums], k: usize) -> Option<(usize, usize)>
     requires naming { IsNaming state.now }
     requires whole { length state.now.names ≡ length table.now.nodes }
     requires sums { All (IsWholeSums (length state.now.names)) sums.now }
@@ -37,6 +62,9 @@ fn open_of_class(table: &Table, state: &State, sums: &[Sums], k: usize) -> Optio
 {
     for s in sums {
         if !is_user(s, k) {
+            continue;
+        }
+        if !has_twin(sig, sums, s.operator, k) {
             continue;
         }
         match open_identity(table, state, s.operator, k) {
@@ -49,6 +77,7 @@ fn open_of_class(table: &Table, state: &State, sums: &[Sums], k: usize) -> Optio
 
 // A question whether a shared class has the identity of an operator that uses it.
 pub(crate) fn identity_question(
+    sig: &Signature,
     table: &Table,
     state: &State,
     reading: &Reading,
@@ -65,7 +94,7 @@ pub(crate) fn identity_question(
         if !is_shared(reading, n, k) {
             continue;
         }
-        match open_of_class(table, state, reading.sums.as_slice(), k) {
+        match open_of_class(sig, table, state, reading.sums.as_slice(), k) {
             None => {}
             Some(pair) => return Some(pair),
         }
