@@ -1,22 +1,21 @@
-//! Tags that go against what is known of the values of classes.
+//! Options of tags that go against what must be the tag of a class.
 ghost use Rattle.std.specs.Prelude.{◌≡◌, ◌≢◌, ◌<◌, length, Some, All, Any, Contains, IsTrue};
-ghost use Rattle.fvn_combine.specs.inner.Against.{IsAgainst};
 
+use fvn_base::Seq;
 use fvn_combine_drawing::SharedClass;
-use fvn_combine_nodes::has_no_identity;
-use fvn_signature::Signature;
 use fvn_terms::OpId;
 
-// Whether the operator is one of the list.
-fn is_user(users: &[OpId], g: OpId) -> bool
-    ensures { IsTrue result → Contains users.now g }
-{
-    for f in users {
-        if *f == g {
-            return true;
-        }
+// The operator that the number stands for; 0 stands for none.
+fn user_at(users: &[OpId], number: u32) -> Option<OpId> {
+    if number == 0 {
+        return None;
     }
-    false
+    let i = number as usize - 1;
+    if i < users.len() {
+        Some(users[i])
+    } else {
+        None
+    }
 }
 
 // Whether the tag is another one than g, or none.
@@ -29,46 +28,27 @@ fn is_other(tag: Option<OpId>, g: OpId) -> bool
     }
 }
 
-// Whether the value of a shared class is known to be a sum by an operator that uses it, and its tag is another one.
-fn is_against(
-    sig: &Signature,
-    entry: &SharedClass,
-    heads: &[Option<OpId>],
-    tags: &[Option<OpId>],
-) -> bool
-    requires heads { entry.now.class < length heads.now }
-    requires tags { entry.now.class < length tags.now }
-    ensures { IsTrue result → IsAgainst sig.now heads.now tags.now entry.now }
-{
-    match heads[entry.class] {
-        None => false,
-        Some(g) => {
-            if has_no_identity(sig.axioms(g)) {
-                return false;
-            }
-            if !is_user(entry.users.as_slice(), g) {
-                return false;
-            }
-            is_other(tags[entry.class], g)
-        }
-    }
-}
-
-// Whether some tag goes against what is known of its class.
-pub(crate) fn go_against(
-    sig: &Signature,
-    shared: &[SharedClass],
-    heads: &[Option<OpId>],
-    tags: &[Option<OpId>],
-) -> bool
-    requires heads { All (λ c. c.class < length heads.now) shared.now }
-    requires tags { All (λ c. c.class < length tags.now) shared.now }
-    ensures { IsTrue result → Any (IsAgainst sig.now heads.now tags.now) shared.now }
-{
-    for entry in shared {
-        if is_against(sig, entry, heads, tags) {
+// Whether the tag is another one than some operator that must be it.
+fn is_against(needed: &[OpId], tag: Option<OpId>) -> bool {
+    for g in needed {
+        if is_other(tag, *g) {
             return true;
         }
     }
     false
+}
+
+// The first shared class whose option goes against what must be its tag.
+pub(crate) fn first_against(
+    shared: &[SharedClass],
+    needed: &[Seq<OpId>],
+    options: &[u32],
+) -> Option<usize> {
+    for place in 0..shared.len() {
+        let tag = user_at(shared[place].users.as_slice(), options[place]);
+        if is_against(needed[place].as_slice(), tag) {
+            return Some(place);
+        }
+    }
+    None
 }

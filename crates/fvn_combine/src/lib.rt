@@ -7,6 +7,7 @@ mod effort;
 mod ending;
 mod kinds;
 mod looking;
+mod needed;
 mod opened;
 mod stepping;
 mod task;

@@ -12,7 +12,7 @@ ghost use Rattle.fvn_combine.specs.inner.Found.{AreDrawnFrom, IsSameButCurrent, 
 ghost use Rattle.fvn_combine.specs.Work.{leaf_left, left_at};
 ghost use Rattle.fvn_acunify_product.specs.Wheels.{choices_left};
 
-use crate::against::go_against;
+use crate::against::first_against;
 use crate::effort::Effort;
 use crate::opened::{Leaf, Opened, Turning};
 use crate::task::Task;
@@ -123,7 +123,7 @@ fn next_of_current(
     }
 }
 
-// Goes on to the next tags, and answers whether there are any; those that go against what is known are passed over.
+// Goes on to the next tags, and answers whether there are any; those that go against what must be a tag are passed over.
 fn turn(task: &Task, state: &State, opened: &mut Opened) -> Result<bool, NoMemory>
     requires opened { IsOpened task.now state.now opened.old }
     ensures turned { IfOk result (IsTurned task.now state.now opened.old opened.new) }
@@ -137,22 +137,20 @@ fn turn(task: &Task, state: &State, opened: &mut Opened) -> Result<bool, NoMemor
         None => return Ok(false),
         Some(options) => options,
     };
+    match first_against(opened.shared.as_slice(), opened.needed.as_slice(), options) {
+        None => {}
+        Some(place) => {
+            opened.tags.skip(place);
+            opened.turning = None;
+            return Ok(true);
+        }
+    }
     let tags = tags_of(
         task.alloc,
         task.table.nodes().len(),
         opened.shared.as_slice(),
         options,
     )?;
-    if go_against(
-        task.sig,
-        opened.shared.as_slice(),
-        opened.known.heads.as_slice(),
-        tags.as_slice(),
-    ) {
-        opened.tags.advance();
-        opened.turning = None;
-        return Ok(true);
-    }
     let wheels = wheels(
         task.alloc,
         task.sig,
