@@ -89,8 +89,8 @@ pub(crate) fn open(
     let needed = needed_tags(
         task.alloc,
         task.sig,
-        &reading,
         known.heads.as_slice(),
+        &reading,
         bases.as_slice(),
         classes.as_slice(),
     )?;
