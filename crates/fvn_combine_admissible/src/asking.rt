@@ -64,7 +64,7 @@ pub(crate) fn constants_of(
     Ok(constants)
 }
 
-// Whether the sum to which class k is bound has a member.
+// Whether class k is bound to a sum of the operator, which has a member, since the operator has no identity.
 fn is_required(
     sig: &Signature,
     reading: &Reading,

@@ -32,9 +32,9 @@ pub record AreConstantsBelow (r : Reading) (tags : List (Option OpId)) (s : Sums
 abbrev pub AreConstantsOf : Reading → List (Option OpId) → Sums → List ℕ → Type 0
 AreConstantsOf r tags s list = AreConstantsBelow r tags s (length s.columns) list
 
--- the sum to which class k is bound has a member
+-- class k is bound to a sum of the operator, which has a member, since the operator has no identity
 abbrev pub IsRequiredIn : Declarations → Reading → List (Option OpId) → Sums → ℕ → Type 0
-IsRequiredIn d r tags s k = IsBoundIn r tags s k × (HasNoIdentity (axioms d s.operator) ⊎ IsSharedIn r k)
+IsRequiredIn d r tags s k = IsBoundIn r tags s k × HasNoIdentity (axioms d s.operator)
 
 -- the marks of the columns before this one
 pub record AreMarksBelow (d : Declarations) (r : Reading) (tags : List (Option OpId)) (s : Sums) (i : ℕ) (marks : List Bool) : Type 0 where
