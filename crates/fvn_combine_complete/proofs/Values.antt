@@ -27,7 +27,7 @@ use Rattle.fvn_combine_nodes.proofs.Heading.{identity_of, some_part, build_head}
 use Rattle.fvn_combine_systems.specs.NodeSystems.{is_headed, addends, stands_in, coefficient}
 use Rattle.fvn_combine_systems.proofs.Members.{over_addends}
 use Rattle.fvn_combine_systems.proofs.Weighing.{balance}
-use Rattle.fvn_combine_leaves.specs.Leaves.{IsSolid, Uses, IsShared, HasTwin, IsSingle, MayBeConstant, HaveTwoHeads, AreTold, IsLive, IsLeaf}
+use Rattle.fvn_combine_leaves.specs.Leaves.{IsSolid, Uses, IsShared, HasTwin, IsSingle, MayBeConstant, HaveTwoHeads, IsLive, IsLeaf}
 use Rattle.fvn_combine_choices.specs.Binding.{IsBound, solid, alone, tagged, IsConstant, IsRequired}
 use Rattle.fvn_combine_choices.specs.Tables.{HasSums}
 use Rattle.fvn_combine_complete.specs.Obeying.{IsTold, GoWith, IsSumOf, IsSumOrIdentityOf, ObeyTags}
