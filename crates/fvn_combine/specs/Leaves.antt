@@ -1,5 +1,5 @@
 -- A leaf that is open, and its choices that are still to come.
-use Rattle.std.specs.Prelude.{◌≡◌, ◌⊎◌, ℕ, true, List, [], length, slice_get, slice_index_or, Option, Some, None, All}
+use Rattle.std.specs.Prelude.{◌≡◌, ◌⊎◌, ℕ, true, List, length, Option, Some, None}
 use Rattle.fvn_terms.specs.declared.plain.OpId.{OpId}
 use Rattle.fvn_terms.specs.Substitution.{Substitution}
 use Rattle.fvn_lindio.specs.declared.system.Solution.{Solution}
@@ -48,15 +48,6 @@ module _ (k : Combining) (s : State) where
     abbrev pub IsCoveredBy : List (Option OpId) → List ℕ → Substitution → Type 0
     IsCoveredBy tags numbers u = IsSortedCovering u (choice_of r tags numbers)
 
-    -- whatever tags and numbers cover a unifier, f is the tag of class k
-    abbrev pub MustBeTag : ℕ → OpId → Type 0
-    MustBeTag k f = (tags : List (Option OpId)) (numbers : List ℕ) (u : Substitution) → IsCoveredBy tags numbers u → tag_in tags k ≡ Some f
-
-    -- for each shared class operators that must be its tag
-    pub record AreNeeded (shared : List SharedClass) (needed : List (List OpId)) : Type 0 where
-      pub as_many : length needed ≡ length shared
-      pub each : (i : ℕ) (c : SharedClass) → slice_get shared i ≡ Some c → All (MustBeTag c.class) (slice_index_or needed i [])
-
     -- numbers that are still to come under the current tags cover u
     pub record IsCoveredUnder (v : Turning) (u : Substitution) : Type 0 where
       pub numbers : List ℕ
@@ -84,7 +75,7 @@ module _ (k : Combining) (s : State) where
   abbrev pub IsCoveredToCome : Opened → Substitution → Type 0
   IsCoveredToCome o u = IsCoveredNow o u ⊎ IsCoveredLater o u
 
-  -- what is read of the leaf and known of its classes, its minimal solutions, its shared classes and what must be their tags, its tags, and the wheels under current tags
+  -- what is read of the leaf and known of its classes, its minimal solutions, its shared classes and their tags, and the wheels under current tags
   pub record IsOpened (o : Opened) : Type 0 where
     pub ready : IsReady k.declarations k.given k.first k.table s
     pub leaf : IsLeaf k.declarations k.table s
@@ -93,6 +84,5 @@ module _ (k : Combining) (s : State) where
     pub sorted : o.known.sorted ≡ k.sorted
     pub bases : AreBases o.reading.sums o.bases
     pub shared : AreSharedClasses k.declarations k.table (class_of s) k.sorted o.shared
-    pub needed : AreNeeded o.reading o.bases o.shared o.needed
     pub counts : o.tags.counts ≡ tag_counts o.shared
     pub turning : (v : Turning) → o.turning ≡ Some v → IsTurning o.reading o.bases o.shared v

@@ -3,4 +3,4 @@ pub mod Found
 pub mod Parts
 pub mod Alike
 pub mod Against
-pub mod Needed
+pub mod Homes

@@ -1,63 +1,114 @@
-//! Options of tags that go against what must be the tag of a class.
-ghost use Rattle.std.specs.Prelude.{◌≡◌, ◌≢◌, ◌<◌, length, Some, Contains, IsTrue, IfSome};
-ghost use Rattle.fvn_combine_drawing.specs.CombineCandidatesTags.{user_at};
-ghost use Rattle.fvn_combine.specs.inner.Against.{IsOther, IsAgainst};
+//! Tags that go against what is known of the values of classes.
+ghost use Rattle.std.specs.Prelude.{◌≡◌, ◌<◌, length, All, Any, Contains, IsTrue, IfSome};
+ghost use Rattle.fvn_combine_leaves.specs.Users.{IsWhole};
+ghost use Rattle.fvn_combine.specs.inner.Against.{IsAgainst, IsAgainstUpTo, IsAgainstAt};
 
+use crate::homes::{is_other, leave_homeless};
 use fvn_base::Seq;
 use fvn_combine_drawing::SharedClass;
+use fvn_combine_leaves::Reading;
+use fvn_combine_nodes::has_no_identity;
+use fvn_lindio::Solution;
+use fvn_signature::Signature;
 use fvn_terms::OpId;
 
-// The operator that the number stands for; 0 stands for none.
-fn user_at(users: &[OpId], number: u32) -> Option<OpId>
-    ensures { result ≡ user_at users.now number }
+// Whether the operator is one of the list.
+fn is_user(users: &[OpId], g: OpId) -> bool
+    ensures { IsTrue result → Contains users.now g }
 {
-    if number == 0 {
-        return None;
-    }
-    let i = number as usize - 1;
-    if i < users.len() {
-        Some(users[i])
-    } else {
-        None
-    }
-}
-
-// Whether the tag is another one than g, or none.
-fn is_other(tag: Option<OpId>, g: OpId) -> bool
-    ensures { IsTrue result → (tag ≢ Some g) }
-{
-    match tag {
-        None => true,
-        Some(f) => f != g,
-    }
-}
-
-// Whether the tag is another one than some operator of the list.
-fn is_against(needed: &[OpId], tag: Option<OpId>) -> bool
-    ensures { IsTrue result → IsOther needed.now tag }
-{
-    for g in needed {
-        if is_other(tag, *g) {
+    for f in users {
+        if *f == g {
             return true;
         }
     }
     false
 }
 
-/// The first shared class whose option goes against what must be its tag.
-pub(crate) fn first_against(
+// Whether the value of a shared class is known to be a sum by an operator that uses it, and its tag is another one.
+fn is_against(
+    sig: &Signature,
+    entry: &SharedClass,
+    heads: &[Option<OpId>],
+    tags: &[Option<OpId>],
+) -> bool
+    requires heads { entry.now.class < length heads.now }
+    requires tags { entry.now.class < length tags.now }
+    ensures { IsTrue result → IsAgainst sig.now heads.now tags.now entry.now }
+{
+    match heads[entry.class] {
+        None => false,
+        Some(g) => {
+            if has_no_identity(sig.axioms(g)) {
+                return false;
+            }
+            if !is_user(entry.users.as_slice(), g) {
+                return false;
+            }
+            is_other(tags[entry.class], g)
+        }
+    }
+}
+
+// Whether some tag goes against what is known of its class.
+fn go_against(
+    sig: &Signature,
     shared: &[SharedClass],
-    needed: &[Seq<OpId>],
-    options: &[u32],
+    heads: &[Option<OpId>],
+    tags: &[Option<OpId>],
+) -> bool
+    requires heads { All (λ c. c.class < length heads.now) shared.now }
+    requires tags { All (λ c. c.class < length tags.now) shared.now }
+    ensures { IsTrue result → Any (IsAgainst sig.now heads.now tags.now) shared.now }
+{
+    for entry in shared {
+        if is_against(sig, entry, heads, tags) {
+            return true;
+        }
+    }
+    false
+}
+
+// Whether some tag of these shared classes goes against what is known of its class, or they leave one without a home.
+fn are_against(
+    sig: &Signature,
+    heads: &[Option<OpId>],
+    reading: &Reading,
+    bases: &[Seq<Solution>],
+    decided: &[SharedClass],
+    tags: &[Option<OpId>],
+) -> bool
+    requires heads { All (λ c. c.class < length heads.now) decided.now }
+    requires tags { All (λ c. c.class < length tags.now) decided.now }
+    requires whole { IsWhole (length reading.now.heads) reading.now }
+    requires bases { length bases.now ≡ length reading.now.sums }
+    ensures { IsTrue result →
+        IsAgainstUpTo sig.now heads.now reading.now bases.now decided.now tags.now }
+{
+    if go_against(sig, decided, heads, tags) {
+        return true;
+    }
+    leave_homeless(decided, tags, reading, bases)
+}
+
+/// The first place at which the tags of the shared classes up to it go against what is known, whatever the tags of the
+/// later ones.
+pub(crate) fn first_against(
+    sig: &Signature,
+    heads: &[Option<OpId>],
+    reading: &Reading,
+    bases: &[Seq<Solution>],
+    shared: &[SharedClass],
+    tags: &[Option<OpId>],
 ) -> Option<usize>
-    requires needed { length needed.now ≡ length shared.now }
-    requires options { length options.now ≡ length shared.now }
-    ensures { IfSome result (IsAgainst shared.now needed.now options.now) }
+    requires heads { All (λ c. c.class < length heads.now) shared.now }
+    requires tags { All (λ c. c.class < length tags.now) shared.now }
+    requires whole { IsWhole (length reading.now.heads) reading.now }
+    requires bases { length bases.now ≡ length reading.now.sums }
+    ensures { IfSome result
+        (IsAgainstAt sig.now heads.now reading.now bases.now shared.now tags.now) }
 {
     for place in 0..shared.len() {
-        let entry = &shared[place];
-        let tag = user_at(entry.users.as_slice(), options[place]);
-        if is_against(needed[place].as_slice(), tag) {
+        if are_against(sig, heads, reading, bases, &shared[..place + 1], tags) {
             return Some(place);
         }
     }

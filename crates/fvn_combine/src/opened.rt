@@ -11,7 +11,6 @@ ghost use Rattle.fvn_combine_drawing.specs.CombineTriangularReady.{IsReady};
 ghost use Rattle.fvn_combine.specs.Leaves.{IsSortedCovering, IsOpened, IsCoveredToCome};
 ghost use Rattle.fvn_combine.specs.Work.{most_tags, most_numbers, leaf_left};
 
-use crate::needed::needed_tags;
 use crate::task::Task;
 use fvn_acunify_product::{Tags, Wheels};
 use fvn_base::Seq;
@@ -39,7 +38,6 @@ pub(crate) struct Opened {
     pub(crate) known: Known,
     pub(crate) bases: Seq<Seq<Solution>>,
     pub(crate) shared: Seq<SharedClass>,
-    pub(crate) needed: Seq<Seq<OpId>>,
     pub(crate) tags: Tags,
     pub(crate) turning: Option<Turning>,
 }
@@ -86,14 +84,6 @@ pub(crate) fn open(
         &reading,
         task.sorted,
     )?;
-    let needed = needed_tags(
-        task.alloc,
-        task.sig,
-        known.heads.as_slice(),
-        &reading,
-        bases.as_slice(),
-        classes.as_slice(),
-    )?;
     let counts = option_counts(task.alloc, classes.as_slice())?;
     let tags = Tags::new(task.alloc, counts)?;
     Ok(Opened {
@@ -101,7 +91,6 @@ pub(crate) fn open(
         known,
         bases: Seq::from_vec(bases),
         shared: Seq::from_vec(classes),
-        needed: Seq::from_vec(needed),
         tags,
         turning: None,
     })

@@ -123,7 +123,7 @@ fn next_of_current(
     }
 }
 
-// Goes on to the next tags, and answers whether there are any; those that go against what must be a tag are passed over.
+// Goes on to the next tags, and answers whether there are any; those that go against what is known are passed over.
 fn turn(task: &Task, state: &State, opened: &mut Opened) -> Result<bool, NoMemory>
     requires opened { IsOpened task.now state.now opened.old }
     ensures turned { IfOk result (IsTurned task.now state.now opened.old opened.new) }
@@ -137,7 +137,20 @@ fn turn(task: &Task, state: &State, opened: &mut Opened) -> Result<bool, NoMemor
         None => return Ok(false),
         Some(options) => options,
     };
-    match first_against(opened.shared.as_slice(), opened.needed.as_slice(), options) {
+    let tags = tags_of(
+        task.alloc,
+        task.table.nodes().len(),
+        opened.shared.as_slice(),
+        options,
+    )?;
+    match first_against(
+        task.sig,
+        opened.known.heads.as_slice(),
+        &opened.reading,
+        opened.bases.as_slice(),
+        opened.shared.as_slice(),
+        tags.as_slice(),
+    ) {
         None => {}
         Some(place) => {
             opened.tags.skip(place);
@@ -145,12 +158,6 @@ fn turn(task: &Task, state: &State, opened: &mut Opened) -> Result<bool, NoMemor
             return Ok(true);
         }
     }
-    let tags = tags_of(
-        task.alloc,
-        task.table.nodes().len(),
-        opened.shared.as_slice(),
-        options,
-    )?;
     let wheels = wheels(
         task.alloc,
         task.sig,
