@@ -1,6 +1,6 @@
 -- A shared class that is a single summand of an operator is in one of the minimal solutions that are taken, once, and beside
 -- no other single summand: tags under which no minimal solution is so cover nothing.
-use Rattle.std.proofs.Common.{◌≡◌, ◌≢◌, ℕ, ◌<◌, List, [], map, length, get_or, refl, sym, ap, ◌∙◌, subst, inl, inr, arith, All, Contains, Option, Some}
+use Rattle.std.proofs.Common.{◌≡◌, ◌≢◌, ℕ, ◌<◌, List, [], map, length, get_or, refl, sym, ap, ◌∙◌, subst, inl, inr, arith, Contains, Option, Some}
 use Rattle.std.specs.Prelude.{slice_get}
 use Rattle.std.proofs.lemmas.List.{get_or-map, length-map}
 use Rattle.std.proofs.lemmas.List.Elements.{All-contains}
@@ -25,7 +25,7 @@ use Rattle.fvn_combine_choices.proofs.Columns.{component_at, some_above, one_of_
 use Rattle.fvn_combine_drawing.specs.CombineAdmissibleListed.{tag_in, systems_of}
 use Rattle.fvn_combine_drawing.specs.CombineCandidatesDeclared.sharing.SharedClass.{SharedClass}
 use Rattle.fvn_combine.specs.Tasks.{Combining, IsCombining}
-use Rattle.fvn_combine.specs.inner.Homes.{IsMarkedAt, HasOtherHead, HasOtherTag, HasConstant, HasConstantBeside, IsNoHome, LeaveHomeless}
+use Rattle.fvn_combine.specs.inner.Homes.{IsMarkedAt, HasOtherHead, HasConstant, HasConstantBeside, IsNoHome, LeaveHomeless}
 use Rattle.fvn_combine.proofs.Items.{places_differ}
 use Rattle.fvn_combine.proofs.Listing.{at_place}
 

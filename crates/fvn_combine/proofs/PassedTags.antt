@@ -41,9 +41,15 @@ module _ (k : Combining) (s : State) (o : Opened) (opened : IsOpened k s o) wher
       subst (λ n. IsWhole n o.reading) (sym opened.reading.heads.as_many)
       (reading_whole k.declarations k.table is.well_made s opened.ready.closed o.reading opened.reading)
 
-  -- there is an option for each shared class
-  pub option_each : (options : List ℕ) → PendingTags o.tags options → length options ≡ length o.shared
-  option_each options h = AllZip-long IsOption o.tags.counts options h.0 ∙ ap length opened.counts ∙ length-map o.shared (λ (c : SharedClass). length c.users + 1)
+  counts_each : length o.tags.counts ≡ length o.shared
+  counts_each = ap length opened.counts ∙ length-map o.shared (λ (c : SharedClass). length c.users + 1)
+
+  -- there is a count for each shared class, and an option
+  pub place_within : (place : ℕ) → place < length o.shared → place < length o.tags.counts
+  place_within place l = let m = counts_each in omega (arith, l, m)
+
+  option_each : (options : List ℕ) → PendingTags o.tags options → length options ≡ length o.shared
+  option_each options h = AllZip-long IsOption o.tags.counts options h.0 ∙ counts_each
 
   module _ (is : IsCombining k) (options : List ℕ) (pending : PendingTags o.tags options) (tags : List (Option OpId)) (are : AreTags o.shared options tags) (place : ℕ) (against : IsAgainstAt k.declarations o.known.heads.items o.reading o.bases o.shared tags place) where
     abbrev decided : List SharedClass

@@ -1,12 +1,11 @@
 -- The tags that options stand for.
-use Rattle.std.proofs.Common.{◌≡◌, ◌≢◌, ℕ, zero, suc, ◌<◌, ◌≤◌, List, [], ◌∷◌, map, length, get_or, refl, sym, ap, ◌∙◌, inl, inr, arith, All, AllPairs, Option, Some, None}
-use Rattle.std.specs.Prelude.{◌⊎◌, if◌then◌else◌, slice_get, nat_eq}
+use Rattle.std.proofs.Common.{◌≡◌, ◌≢◌, ℕ, zero, suc, ◌<◌, ◌≤◌, List, [], ◌∷◌, length, get_or, refl, sym, ap, ◌∙◌, inl, inr, arith, All, AllPairs, Option, Some, None}
+use Rattle.std.specs.Prelude.{◌⊎◌, if◌then◌else◌, slice_get}
 use Rattle.std.proofs.lemmas.Bool.{eq-eqb, ne_eqb, cases_order}
 use Rattle.std.proofs.lemmas.List.{get_or-map, length-map, get_or_past}
 use Rattle.std.proofs.lemmas.List.Elements.{All-tail}
 use Rattle.std.proofs.lemmas.Option.{slice_get_within, get_or_from_slice_get}
 use Rattle.fvn_terms.specs.declared.plain.OpId.{OpId}
-use Rattle.fvn_combine_drawing.specs.CombineAdmissibleListed.{tag_in}
 use Rattle.fvn_combine_drawing.specs.CombineCandidatesSharing.{classes_of}
 use Rattle.fvn_combine_drawing.specs.CombineCandidatesTags.{AreTags, tag_by, user_at}
 use Rattle.fvn_combine_drawing.specs.CombineCandidatesDeclared.sharing.SharedClass.{SharedClass}
@@ -37,7 +36,7 @@ none_past n (a ∷ shared) (m ∷ numbers) within x l =
     ap (λ b. if b then user_at a.users m else tag_by shared numbers x) (ne_eqb a.class x other)
     ∙ none_past n shared numbers (All-tail (λ (c : SharedClass). c.class < n) a shared within) x l
 
-listed : (ℕ → Option OpId) → ℕ → List (Option OpId)
+abbrev listed : (ℕ → Option OpId) → ℕ → List (Option OpId)
 listed f zero = []
 listed f (suc n) = f 0 ∷ listed (λ i. f (suc i)) n
 

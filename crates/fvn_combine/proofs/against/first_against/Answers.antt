@@ -1,5 +1,5 @@
 -- The shared classes up to this place.
-use Rattle.std.proofs.Common.{◌<◌, length, ap, arith, All}
+use Rattle.std.proofs.Common.{◌+◌, ◌<◌, length}
 use Rattle.std.proofs.lemmas.List.Elements.{All-take}
 use Rattle.fvn_combine_drawing.specs.CombineCandidatesDeclared.sharing.SharedClass.{SharedClass}
 use Rattle.fvn_combine.proofs.against.first_against.Goals as goal

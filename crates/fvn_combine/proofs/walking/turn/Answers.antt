@@ -4,8 +4,6 @@ use Rattle.std.proofs.Math.Nat.{le_trans}
 use Rattle.fvn_terms.specs.declared.plain.OpId.{OpId}
 use Rattle.fvn_lindio.specs.declared.system.Solution.{Solution}
 use Rattle.fvn_combine_nodes.specs.States.{class_of}
-use Rattle.fvn_combine_leaves.proofs.ReadOfState.{reading_whole}
-use Rattle.fvn_combine_leaves.specs.Users.{IsWhole}
 use Rattle.fvn_combine_drawing.specs.CombineAdmissibleListed.{tag_in}
 use Rattle.fvn_combine_drawing.specs.CombineCandidatesTags.{AreTags}
 use Rattle.fvn_combine_drawing.specs.CombineCandidatesDeclared.sharing.SharedClass.{SharedClass}
@@ -14,11 +12,11 @@ use Rattle.fvn_combine.specs.Tasks.{Combining}
 use Rattle.fvn_combine.specs.inner.Against.{IsAgainstAt}
 use Rattle.fvn_combine.proofs.Less.{few_numbers}
 use Rattle.fvn_combine.proofs.Turned.{turned}
-use Rattle.fvn_combine.proofs.PassedTags.{classes_within, whole_of, passed}
+use Rattle.fvn_combine.proofs.PassedTags.{classes_within, whole_of, place_within, passed}
 use Rattle.fvn_combine.proofs.walking.turn.Goals as goal
 
-pub returns-in-None-clause-turned : goal.returns-in-None-clause-turned
-returns-in-None-clause-turned c =
+pub returns-clause-turned : goal.returns-clause-turned
+returns-clause-turned c =
     let o = c.args.opened.now in
     let wheels = c.in_ok-wheels.wheels in
     let are = subst (AreTags o.shared c.in-Some.options.now) (sym c.from_vec.ensures) (subst (λ shared. AreTags shared c.in-Some.options.now c.in_ok-tags.tags.items) c.as_slice.ensures c.in_ok-tags.ensures.exact) in
@@ -47,19 +45,22 @@ first_against-requires c =
     }
 
 pub skip-requires : goal.skip-requires
-skip-requires c = c.in-Some-2.ensures.within
+skip-requires c = record {
+  within = place_within c.args.task.now c.args.state.now c.args.opened.now c.requires.opened c.in-Some-first_against.place
+      (subst (λ (l : List SharedClass). c.in-Some-first_against.place < length l) c.as_slice-4.ensures c.in-Some-first_against.ensures.within);
+}
 
-pub returns-in-Some-clause-turned : goal.returns-in-Some-clause-turned
-returns-in-Some-clause-turned c =
+pub returns-in-Some-first_against-clause-turned : goal.returns-in-Some-first_against-clause-turned
+returns-in-Some-first_against-clause-turned c =
     let o = c.args.opened.now in
     let tags = c.in_ok-tags.tags.items in
     let are = subst (λ shared. AreTags shared c.in-Some.options.now tags) c.as_slice.ensures c.in_ok-tags.ensures.exact in
-    let place = c.in-Some-2.place in
+    let place = c.in-Some-first_against.place in
     let against = subst (λ (k : Combining). IsAgainstAt k.declarations o.known.heads.items o.reading o.bases o.shared tags place) c.task.view_is
     (subst (λ (l : List SharedClass). IsAgainstAt c.task.inside.sig.now o.known.heads.items o.reading o.bases l tags place) c.as_slice-4.ensures
     (subst (λ (l : List (Option OpId)). IsAgainstAt c.task.inside.sig.now l o.reading o.bases c.as_slice-4.result.now tags place) c.as_slice-2.ensures.value
     (subst (λ (l : List (List Solution)). IsAgainstAt c.task.inside.sig.now c.as_slice-2.result.now o.reading l c.as_slice-4.result.now tags place) c.as_slice-3.ensures
     (subst (λ (l : List (Option OpId)). IsAgainstAt c.task.inside.sig.now c.as_slice-2.result.now o.reading c.as_slice-3.result.now c.as_slice-4.result.now l place) c.as_slice-5.ensures.value
-    c.in-Some-2.ensures)))) in
+    c.in-Some-first_against.ensures)))) in
     passed c.args.task.now c.args.state.now o c.requires.opened c.recall.ensures c.in-Some.options.now c.in-Some.ensures.greatest.0 tags are place against
     c.skip.new.self c.skip.ensures.counts c.in-Some.ensures.value c.skip.ensures.taken c.skip.ensures.kept (c.skip.ensures.falls c.in-Some.options.now c.in-Some.ensures.value)
