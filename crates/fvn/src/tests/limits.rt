@@ -174,11 +174,12 @@ vunify | a =? a ==> 3 | module 13 equation 1
 verify | a =? a | {} ==> 3 | module 13 equation 1
 terminates | g : 1 1 ==> 3 | module 13 equation 1";
 
-/// Modules, and under each commands with words at a limit and one beyond, and what is printed of these. Parentheses have no
-/// limit. The limits are: symbols of a problem and of a term, 400; of a bound term and of what is made, 1,000; minimal
-/// solutions, 24, and numbers in them over 65,535; choices of a match one within another, 209, as 69 sums have, and as many
-/// summands as a left side may have; steps, levels and variants; bytes of a module. Over the last module one unifier has terms of 511 symbols and fewer, each twice the next; two have a sum of such terms, of 999 symbols and of
-/// 1,001; one has a term of 1,023; and one binds twenty variables.
+/// Modules, and under each commands with words at a limit and one beyond, and what is printed of these. Parentheses have
+/// no limit. The limits are: symbols of a problem and of a term, 400; of a bound term and of what is made, 1,000; minimal
+/// solutions, 24, and numbers in them over 65,535; choices of a match one within another, 209, as 69 sums have, and as
+/// many summands as a left side may have; steps, levels and variants; bytes of a module. Over the last module one unifier
+/// has terms of 511 symbols and fewer, each twice the next; two have a sum of such terms, of 999 symbols and of 1,001;
+/// one has a term of 1,023; and one binds twenty variables.
 const QUESTIONS: &str = "\
 fmod FREE is
   sort S .
