@@ -1,4 +1,5 @@
 //! Tests of unifiers in theories.
 
 mod fixed;
+mod kept;
 mod replies;

@@ -1,0 +1,11 @@
+-- The solver that counts has the signature and the limits of the one that it asks.
+use Rattle.std.proofs.Common.{◌≡◌, sym, subst}
+use Rattle.fvn_tests_vunify.proofs.tests.kept.asked.Goals as goal
+
+pub ask-requires-clause-signature : goal.ask-requires-clause-signature
+ask-requires-clause-signature g c lives order =
+    subst (λ s. g.A.AxiomSolver.signature s ≡ c.args.sig.now) (sym c.new-counting.ensures) c.requires.signature
+
+pub ask-requires-clause-size : goal.ask-requires-clause-size
+ask-requires-clause-size g c lives order =
+    subst (λ s. g.A.AxiomSolver.most_symbols s ≡ 1000) (sym c.new-counting.ensures) c.requires.size
