@@ -1,4 +1,4 @@
-//! Tests of unifiers in theories: the reply to `vunify`, and what is found where terms are to stay irreducible.
+//! Tests of unifiers in theories: the reply to `vunify`, what is found where terms are to stay irreducible, and what is asked again.
 #![tactic(auto)]
 
 mod counting;
