@@ -186,12 +186,17 @@ fn shown_of<R: Threads + Sync>(
     shown_in(rt, alloc, declared.signature(), declared.equations())
 }
 
+// The same of the text of a module.
+fn shown_text<R: Threads + Sync>(rt: &R, alloc: Global, bytes: &[u8]) -> Result<String, NoMemory> {
+    match read_module(alloc, bytes) {
+        Ok(module) => shown_of(rt, alloc, &module),
+        Err(_) => Ok(String::new(alloc)),
+    }
+}
+
 // The numbers are as they should be.
 fn assert_kept<R: Threads + Abort + Sync>(rt: &R, alloc: Global) -> Result<(), NoMemory> {
-    let found = match read_module(alloc, MODULE.as_bytes()) {
-        Ok(module) => shown_of(rt, alloc, &module)?,
-        Err(_) => String::new(alloc),
-    };
+    let found = shown_text(rt, alloc, MODULE.as_bytes())?;
     assert_eq!(rt; found.as_str(), ASKED, "asked");
     Ok(())
 }
