@@ -1,5 +1,4 @@
 //! Tests of unifiers in theories.
 
 mod fixed;
-mod kept;
 mod replies;
