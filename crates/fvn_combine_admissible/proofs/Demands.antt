@@ -20,7 +20,7 @@ use Rattle.fvn_combine_leaves.specs.declared.reading.Reading.{Reading}
 use Rattle.fvn_combine_choices.specs.Binding.{IsConstant, IsRequired, AreAsked}
 use Rattle.fvn_combine_admissible.specs.Listed.{tag_in}
 use Rattle.fvn_combine_admissible.specs.inner.Reads.{IsConstantAt, AreConstantsBelow, AreConstantsOf, IsRequiredIn, AreMarksBelow, AreMarksOf}
-use Rattle.fvn_combine_leaves.proofs.ReadOfState.{are_sums, sums_whole, shared_in, shared_from}
+use Rattle.fvn_combine_leaves.proofs.ReadOfState.{are_sums, sums_whole, twin_in, twin_from}
 use Rattle.fvn_combine_admissible.proofs.Binding.{bound_iff}
 
 module _ (r : Reading) (tags : List (Option OpId)) (e : Sums) where
@@ -79,8 +79,8 @@ module _ (d : Declarations) (t : NodeTable) (made : IsWellMade t) (s : State) (c
   required_at j l =
       let k = slice_index e.columns j in
       let b = bound_iff d t made s closed r reading tags e listed k (column_at j l) in (
-        λ h. record { bound = b.0 h.0; why = elim h.1 [ inl bare ↦ inr bare | inr shared ↦ inl (shared_from d t made s closed r reading k (column_at j l) shared) ] },
-        λ h. (b.1 h.bound, elim h.why [ inl shared ↦ inr (shared_in d t made s closed r reading k (column_at j l) shared) | inr bare ↦ inl bare ]),
+        λ h. record { bound = b.0 h.0; why = elim h.1 [ inl bare ↦ inl bare | inr twin ↦ inr (twin_from d t made s closed r reading e.operator k twin) ] },
+        λ h. (b.1 h.bound, elim h.why [ inl bare ↦ inl bare | inr twin ↦ inr (twin_in d t made s closed r reading e.operator k twin) ]),
       )
 
   pub are_asked : (constants : List ℕ) (marks : List Bool) → AreConstantsOf r tags e constants → AreMarksOf d r tags e marks → AreAsked d t (class_of s) (tag_in tags) e.operator e.columns constants marks

@@ -14,7 +14,7 @@ ghost use Rattle.fvn_combine_admissible.specs.inner.Reads.{
 
 use crate::bound::is_bound_in;
 use fvn_base::Seq;
-use fvn_combine_leaves::{Reading, Sums, is_shared};
+use fvn_combine_leaves::{Reading, Sums, has_twin};
 use fvn_combine_nodes::{State, Table, has_no_identity};
 use fvn_signature::Signature;
 use fvn_terms::{NoMemory, OpId};
@@ -64,7 +64,7 @@ pub(crate) fn constants_of(
     Ok(constants)
 }
 
-// Whether the sum to which class k is bound has a member.
+// Whether the sum of the operator to which class k is bound has a member.
 fn is_required(
     sig: &Signature,
     reading: &Reading,
@@ -84,7 +84,7 @@ fn is_required(
     if has_no_identity(sig.axioms(sums.operator)) {
         return true;
     }
-    is_shared(reading, n, k)
+    has_twin(sig, reading.sums.as_slice(), n, sums.operator, k)
 }
 
 // For each column whether all solutions may be zero there.

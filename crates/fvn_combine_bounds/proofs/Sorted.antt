@@ -1,5 +1,5 @@
 -- The value of a class is that of each variable in it.
-use Rattle.std.proofs.Common.{◌≡◌, ℕ, ◌<◌, ◌≤◌, length, sym, ap, ◌∙◌, subst, arith, Contains}
+use Rattle.std.proofs.Common.{◌≡◌, ℕ, ◌<◌, ◌≤◌, length, sym, ap, ◌∙◌, subst, inl, inr, arith, Contains}
 use Rattle.std.proofs.lemmas.Option.{slice_get_within}
 use Rattle.fvn_terms.specs.declared.plain.Var.{Var as Variable}
 use Rattle.fvn_terms.specs.declared.declarations.Declarations.{Declarations}
@@ -8,6 +8,7 @@ use Rattle.fvn_terms.specs.Signature.{kind, IsTerm}
 use Rattle.fvn_terms.specs.Term.{Term, var}
 use Rattle.fvn_terms.specs.Unifiers.{Problem}
 use Rattle.fvn_forms.specs.Canon.{parts, canon}
+use Rattle.fvn_forms.proofs.Build.{parts_identity}
 use Rattle.fvn_forms.proofs.Eval.{canon_respects}
 use Rattle.fvn_flat.specs.Problems.{variables_of}
 use Rattle.fvn_combine_nodes.specs.Table.{NodeTable, term_at}
@@ -71,12 +72,14 @@ bounds_kept taken one some none d problem t s u at y c obeying =
           let counted = summands.within f sum not_neutral k used in
           omega (arith, few, counted);
       some = λ f sum k used other. summands.some f sum k used (some d problem t s u at f k other);
-      untagged = λ f k shared used narrow. none d problem t s u at c.tag obeying.tags f k shared used narrow;
+      untagged = λ f k shared used narrow never. none d problem t s u at c.tag obeying.tags f k shared used narrow never;
     }
 
-pub narrow_untagged : UnifiersPartition → NarrowSortsHaveNoSum → NarrowClassesHaveNoTag
-narrow_untagged law sorts d problem t s u at tag obey f k shared used narrow e =
-    let x = narrow.variable in
-    let sum = (obey k f shared used).0 e in
-    sorts d at.good f x.sort narrow.none (u x) (is_term law d problem t s u at k x narrow.has) (at.sorted x (has_sort law d problem t s u at k x narrow.has))
-    sum.0 (sym (value_is law d problem t s u at k x narrow.has) ∙ sum.1)
+pub narrow_untagged : UnifiersPartition → NarrowSortsHaveNoSum → OtherClassesHaveSomeSummand → NarrowClassesHaveNoTag
+narrow_untagged law sorts some d problem t s u at tag obey f k shared used narrow never e = elim ((obey k f shared used).0 e) [
+  | inl sum ↦
+      let x = narrow.variable in
+      sorts d at.good f x.sort narrow.none (u x) (is_term law d problem t s u at k x narrow.has) (at.sorted x (has_sort law d problem t s u at k x narrow.has))
+      sum.0 (sym (value_is law d problem t s u at k x narrow.has) ∙ sum.1)
+  | inr unit ↦ some d problem t s u at f k never (ap (parts d f) unit.2 ∙ parts_identity d f unit.0 unit.1)
+]

@@ -60,13 +60,13 @@ ObeyedChoicesKeepBounds =
     → (y : Systems) (c : Choice) → AreObeying d t (class_of s) y c (value_at d u t.nodes)
     → KeepsBounds d t (class_of s) y c
 
--- no operator under which a class is narrow is its tag
+-- no operator under which a class is narrow, and whose identity it never is, is its tag
 abbrev pub NarrowClassesHaveNoTag : Type 0
 NarrowClassesHaveNoTag =
     (d : Declarations) (problem : Problem) (t : NodeTable) (s : State) (u : Substitution) → IsSortedAt d problem t s u
     → (tag : ℕ → Option OpId) → ObeyTags d t (class_of s) tag (value_at d u t.nodes)
     → (f : OpId) (k : ℕ) → IsShared d t (class_of s) k → Uses d t (class_of s) f k
-    → IsNarrow d t (class_of s) f k → tag k ≢ Some f
+    → IsNarrow d t (class_of s) f k → IsNeverIdentity d t (class_of s) f k → tag k ≢ Some f
 
 -- an operator whose identity leaves sorts alone admits sums of each sort of its kind
 abbrev pub NeutralOperatorsAdmitSums : Type 0

@@ -39,14 +39,15 @@ module _ (d : Declarations) (t : NodeTable) (class : ℕ → ℕ) (f : OpId) whe
     pub none : AdmitsIdentity d f variable.sort → ⊥
 
 -- what sorts ask of a choice: it takes a narrow class once at most, where the operator is not neutral, and a class
--- that is never the identity at least once; and it binds no class to a sum by an operator under which it is narrow
+-- that is never the identity at least once; and it binds no class to a sum by an operator under which it is narrow,
+-- and whose identity it never is
 pub record KeepsBounds (d : Declarations) (t : NodeTable) (class : ℕ → ℕ) (y : Systems) (c : Choice) : Type 0 where
   pub once : (f : OpId) → IsSumOperator d t f → (IsNeutral d f → ⊥) → (k : ℕ) → Uses d t class f k
       → IsNarrow d t class f k → member_count y c f k ≤ 1
   pub some : (f : OpId) → IsSumOperator d t f → (k : ℕ) → Uses d t class f k → IsNeverIdentity d t class f k
       → 0 < member_count y c f k
   pub untagged : (f : OpId) (k : ℕ) → IsShared d t class k → Uses d t class f k → IsNarrow d t class f k
-      → c.tag k ≢ Some f
+      → IsNeverIdentity d t class f k → c.tag k ≢ Some f
 
 -- u gives these variables terms of their sorts
 abbrev pub KeepsSorts : Declarations → List Variable → Substitution → Type 0

@@ -49,12 +49,13 @@ pub fn obeyed_choices_keep_bounds()
     narrow_classes_have_no_tag();
 }
 
-/// No operator under which it is narrow is the tag of a class.
+/// No operator under which it is narrow, and whose identity it never is, is the tag of a class.
 pub fn narrow_classes_have_no_tag()
     ensures { NarrowClassesHaveNoTag }
 {
     unifiers_partition();
     narrow_sorts_have_no_sum();
+    other_classes_have_some_summand();
 }
 
 /// An operator whose identity leaves sorts alone admits sums of each sort of its kind.

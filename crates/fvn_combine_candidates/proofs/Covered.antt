@@ -49,7 +49,7 @@ pub covering_listed : (d : Declarations) (problem : Problem) (t : NodeTable) (s 
     × (sorted ≡ true → KeepsBounds d t (class_of s) y (choice_of r tags numbers)) × ((k : ℕ) → tag_in tags k ≡ c.tag k))
 covering_listed d problem t s r reading sorted shared are y u c h keeps =
     let may : (k : ℕ) (f : OpId) → c.tag k ≡ Some f → IsShared d t (class_of s) k × MayBeSum d t (class_of s) sorted f k =
-    λ k f e. let u = h.possible.tags k f e in (u.0, (u.1, λ heeded narrow. (keeps heeded).untagged f k u.0 u.1 narrow e)) in
+    λ k f e. let u = h.possible.tags k f e in (u.0, (u.1, λ heeded narrow never. (keeps heeded).untagged f k u.0 u.1 narrow never e)) in
     let n = tags_have_numbers d t (class_of s) sorted c.tag may shared are in
     let numbers = numbers_for d t (class_of s) r reading c.number in
     let moved = covering_to d problem t s y u c.tag c.number (at_operator 0 r.sums numbers) (listed_number d t (class_of s) r reading c.number) h in (

@@ -16,10 +16,10 @@ use Rattle.fvn_combine_candidates.specs.Sharing.{classes_of, MayBeSum, IsSharedC
 use Rattle.fvn_combine_candidates.specs.Tags.{tag_counts, user_at, tag_by, AreTags}
 use Rattle.fvn_combine_candidates.proofs.Entries.{listed_at, placed_at}
 
--- where sorts are heeded a value may be a sum by a user under which the class is not narrow
-pub may_told : {U N : Type 0} (sorted b : Bool) → U → sorted ≡ true → IsTrue b ↔ N → IsTrue (not b) ↔ (U × (sorted ≡ true → N → ⊥))
-may_told sorted true u e h = (λ q. absurd (false≢true q), λ m. absurd (m.1 e (h.0 refl)))
-may_told sorted false u e h = (λ _. (u, λ _ n. absurd (false≢true (h.1 n))), λ _. refl)
+-- where sorts are heeded a value may be the identity of a user under which the class is narrow, unless it never is that
+pub may_told : {U N M : Type 0} (sorted b : Bool) → U → sorted ≡ true → N → IsTrue b ↔ M → IsTrue (not b) ↔ (U × (sorted ≡ true → N → M → ⊥))
+may_told sorted true u e n h = (λ q. absurd (false≢true q), λ m. absurd (m.1 e n (h.0 refl)))
+may_told sorted false u e n h = (λ _. (u, λ _ _ m. absurd (false≢true (h.1 m))), λ _. refl)
 
 -- a shared class of the list of which f is a user
 pub record IsUserIn (shared : List SharedClass) (k : ℕ) (f : OpId) : Type 0 where

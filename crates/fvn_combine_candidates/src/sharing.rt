@@ -7,7 +7,7 @@ ghost use Rattle.fvn_combine_candidates.specs.inner.Walking.{AreUsersBelow};
 
 use fvn_base::Seq;
 use fvn_combine_admissible::{is_shared_class, uses};
-use fvn_combine_bounds::is_narrow;
+use fvn_combine_bounds::{is_narrow, is_never_identity};
 use fvn_combine_leaves::{Reading, Sums};
 use fvn_combine_nodes::{State, Table};
 use fvn_signature::Signature;
@@ -19,11 +19,11 @@ use std::alloc::Global;
 pub struct SharedClass {
     /// The node that names it.
     pub class: usize,
-    /// The sum operators that use it and may head its value, each once.
+    /// The sum operators that use it, of which its value may be a sum or the identity, each once.
     pub users: Seq<OpId>,
 }
 
-// Whether the operator uses class k, and the value of the class may be a sum by it.
+// Whether the operator uses class k, and the value of the class may be a sum by it, or its identity.
 fn may_be_sum(
     sig: &Signature,
     table: &Table,
@@ -45,10 +45,13 @@ fn may_be_sum(
     if !sorted {
         return true;
     }
-    !is_narrow(sig, table, state, sums.operator, k)
+    if !is_narrow(sig, table, state, sums.operator, k) {
+        return true;
+    }
+    !is_never_identity(sig, table, state, sums.operator, k)
 }
 
-// The sum operators that use class k and may head its value, each once.
+// The sum operators that use class k, of which its value may be a sum or the identity, each once.
 fn users_of(
     alloc: Global,
     sig: &Signature,
@@ -75,8 +78,8 @@ fn users_of(
     Ok(users)
 }
 
-/// Exactly the shared classes, each once, with the operators that use them; where sorts are heeded, those alone that
-/// may head their values.
+/// Exactly the shared classes, each once, with the operators that use them; where sorts are heeded, those alone of
+/// which their values may be sums or the identity.
 pub fn shared(
     alloc: Global,
     sig: &Signature,

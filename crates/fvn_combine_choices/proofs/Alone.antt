@@ -13,7 +13,7 @@ use Rattle.fvn_terms.specs.Signature.{axioms}
 use Rattle.fvn_terms.specs.Equality.{IsAssociative, identity}
 use Rattle.fvn_terms.specs.Substitution.{Occurs}
 use Rattle.fvn_forms.specs.Flat.{FlatTerm, fvar, plain}
-use Rattle.fvn_forms.specs.Canon.{parts, all_parts, sum, build, inst}
+use Rattle.fvn_forms.specs.Canon.{parts, all_parts, empty_sum, sum, build, inst}
 use Rattle.fvn_forms.specs.Settled.{IsPiece}
 use Rattle.fvn_forms.proofs.InOrder.{length_sort}
 use Rattle.fvn_flat.proofs.Occurrences.{OccursIn}
@@ -43,7 +43,7 @@ use Rattle.fvn_combine_choices.proofs.Members.{times_in, each_member}
 use Rattle.fvn_combine_choices.proofs.Standing.{length_sum, names_are}
 use Rattle.fvn_combine_choices.proofs.Values.{value, value_sum, simple_built, members_or_identity, are_values}
 use Rattle.fvn_combine_choices.proofs.Occurring.{occurs_sum}
-use Rattle.fvn_combine_choices.proofs.Pieces.{long_piece, long_sum, simple_piece}
+use Rattle.fvn_combine_choices.proofs.Pieces.{long_piece, long_sum, simple_piece, constant_piece as other_piece}
 
 module _ {d : Declarations} {given : Pairs} {first : ℕ} {t : NodeTable} {s : State} {y : Systems} {c : Choice} {next : ℕ} {plan : Plan} {bindings : Bindings} (h : IsPlanned d given first t s y c next plan bindings) where
   -- what stands for a solution is not bound
@@ -165,11 +165,23 @@ module _ {d : Declarations} {given : Pairs} {first : ℕ} {t : NodeTable} {s : S
           single : IsSumOperator d t g → member_count y c g k < 2 → IsPiece d f (value h k)
           single sum_of few = go (members_of d (problem_of given) (class_at t (class_of s)) plan g k) refl (each_member IsNewMember (plan.columns g) (plan.parts g) k (λ p m some. (p.variable, (refl, new_member sum_of few p m some))))
             where
-              required : 0 < member_count y c g k
-              required = (h.possible.acceptable g sum_of).filled k (record { bound = bound; why = inl shared })
+              -- a sum without members is g's identity, and it has some where that is f's
+              empty : members_of d (problem_of given) (class_at t (class_of s)) plan g k ≡ [] → IsPiece d f (value h k)
+              empty e =
+                  let i = members_or_identity h g k bound e in
+                  let at = value_sum h g k is bound ∙ ap (λ l. inst d (unfolds_to d bindings) (sum d g l)) e ∙ ap (λ o. inst d (unfolds_to d bindings) (empty_sum d g o)) i.1 in
+                  subst (IsPiece d f) (sym at) (other_piece d f i.0 (λ own. none_empty own))
+                where
+                  none_empty : identity (axioms d f) ≡ Some (members_or_identity h g k bound e).0 → ⊥
+                  none_empty own =
+                      let i = members_or_identity h g k bound e in
+                      let required = (h.possible.acceptable g sum_of).filled k (record { bound = bound; why = inr (record { twin = f; other = other; same = own ∙ sym i.1; uses = constant.used }) }) in
+                      let n = length_sum h g sum_of k in
+                      let z : length (members_of d (problem_of given) (class_at t (class_of s)) plan g k) ≡ 0 = ap length e in
+                      omega (arith, n, z, required)
 
               go : (l : List FlatTerm) → members_of d (problem_of given) (class_at t (class_of s)) plan g k ≡ l → AllByRecursion IsNewMember l → IsPiece d f (value h k)
-              go [] e all = absurd (let n = length_sum h g sum_of k in let z : length (members_of d (problem_of given) (class_at t (class_of s)) plan g k) ≡ 0 = ap length e in omega (arith, n, z, required))
+              go [] e all = empty e
               go (u ∷ []) e all =
                   let x = all.0.0 in
                   let at = value_sum h g k is bound ∙ ap (λ l. inst d (unfolds_to d bindings) (sum d g l)) e ∙ ap (inst d (unfolds_to d bindings)) all.0.1.0 in

@@ -63,6 +63,13 @@ module _ (d : Declarations) where
       go (Some o) i = at o (same_op o g) refl i
   unjoined_piece f g (fmore t ts) n = refl
 
+  -- the identity of another operator is a single summand, where it is not the operator's own
+  pub constant_piece : (f e : OpId) → (identity (axioms d f) ≡ Some e → ⊥) → IsPiece d f (fconstant e)
+  constant_piece f e n = unjoined_piece f e fnone (λ o i same. n (i ∙ ap Some (sym (over_nothing o same))))
+    where
+      over_nothing : (o : OpId) → fapp e false fnone ≡ fconstant o → e ≡ o
+      over_nothing o same = cc
+
   -- what a free or commutative operator builds
   pub record IsUnjoined (g : OpId) (vs : List FlatTerm) : Type 0 where
     pub order : List FlatTerm

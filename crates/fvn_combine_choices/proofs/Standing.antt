@@ -49,7 +49,7 @@ module _ {d : Declarations} {given : Pairs} {first : ℕ} {t : NodeTable} {s : S
   pub some_members : (f : OpId) (k : ℕ) → IsBound d t (class_of s) c.tag f k → HasNoIdentity (axioms d f) → members_of d (problem_of given) (class_at t (class_of s)) plan f k ≢ []
   some_members f k bound bare e =
       let sum = bound_operator h f k bound in
-      let n = (h.possible.acceptable f sum).filled k (record { bound = bound; why = inr bare }) in
+      let n = (h.possible.acceptable f sum).filled k (record { bound = bound; why = inl bare }) in
       let l = length_sum f sum k in
       let z : length (members_of d (problem_of given) (class_at t (class_of s)) plan f k) ≡ 0 = ap length e in
       omega (arith, n, l, z)

@@ -6,7 +6,7 @@ use Rattle.fvn_terms.specs.Signature.{axioms}
 use Rattle.fvn_terms.specs.Equality.{IsAssociative}
 use Rattle.fvn_flat.specs.Partitions.{HasNoIdentity}
 use Rattle.fvn_combine_nodes.specs.Table.{NodeTable}
-use Rattle.fvn_combine_leaves.specs.Leaves.{IsSolid, Uses, IsShared}
+use Rattle.fvn_combine_leaves.specs.Leaves.{IsSolid, Uses, IsShared, HasTwin}
 
 -- Each shared class may have an operator as its tag, of which it is a sum.
 module _ (d : Declarations) (t : NodeTable) (class : ℕ → ℕ) (tag : ℕ → Option OpId) where
@@ -24,10 +24,10 @@ module _ (d : Declarations) (t : NodeTable) (class : ℕ → ℕ) (tag : ℕ →
     pub used : Uses d t class f k
     pub not_bound : IsBound f k → ⊥
 
-  -- the sum of f to which class k is bound has a member
+  -- the sum of f to which class k is bound has a member: f has no identity, or another operator that uses the class has the same one
   pub record IsRequired (f : OpId) (k : ℕ) : Type 0 where
     pub bound : IsBound f k
-    pub why : IsShared d t class k ⊎ HasNoIdentity (axioms d f)
+    pub why : HasNoIdentity (axioms d f) ⊎ HasTwin d t class f k
 
   -- the constant columns for f, and for each column whether it may be zero
   pub record AreAsked (f : OpId) (columns constants : List ℕ) (may_be_zero : List Bool) : Type 0 where

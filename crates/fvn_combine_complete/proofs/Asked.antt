@@ -1,9 +1,9 @@
 -- What is bound, constant and required at a leaf is told, so that what is asked of a choice can be listed.
 use Rattle.std.proofs.Common.{◌≡◌, ◌≢◌, ◌⊎◌, ℕ, zero, suc, ◌+◌, ◌<◌, true, false, List, [], ◌∷◌, length, get_or, refl, sym, ap, ◌∙◌, subst, inl, inr, arith, AllPairs, Contains, Option, Some, None, slice_get, pos}
 use Rattle.std.specs.Prelude.{Bool, ◌↔◌}
-use Rattle.std.proofs.lemmas.Bool.{cases_Bool, cases_eq, true≢false}
+use Rattle.std.proofs.lemmas.Bool.{cases_eq, true≢false}
 use Rattle.fvn_base.specs.Decided.{Decided}
-use Rattle.fvn_base.proofs.Decided.{some_or_none}
+use Rattle.fvn_base.proofs.Decided.{some_or_none, both_or}
 use Rattle.fvn_base.proofs.Membership.{contains_here, contains_later, contains_cases, contains_none}
 use Rattle.fvn_base.proofs.Options.{Some-injective}
 use Rattle.fvn_base.proofs.Pigeonhole.{AllPairs-cons}
@@ -12,21 +12,21 @@ use Rattle.fvn_terms.specs.declared.declarations.Axioms.{Axioms}
 use Rattle.fvn_terms.specs.declared.declarations.Axioms.TheVariants.{Free, Comm, AssocComm, AssocCommId}
 use Rattle.fvn_terms.specs.declared.declarations.Declarations.{Declarations}
 use Rattle.fvn_terms.specs.Signature.{axioms}
-use Rattle.fvn_terms.specs.Equality.{IsAssociative}
+use Rattle.fvn_terms.specs.Equality.{IsAssociative, identity}
 use Rattle.fvn_forms.specs.Flat.{FlatTerm}
-use Rattle.fvn_forms.specs.Canon.{same_op}
-use Rattle.fvn_forms.proofs.Sums.{same_op_is, same_op_itself}
 use Rattle.fvn_flat.specs.Partitions.{HasNoIdentity}
 use Rattle.fvn_combine_nodes.specs.Table.{NodeTable, IsWellMade}
 use Rattle.fvn_combine_nodes.specs.States.{class_of}
 use Rattle.fvn_combine_nodes.specs.declared.state.State.{State}
+use Rattle.fvn_combine_nodes.proofs.Heading.{identity_of}
 use Rattle.fvn_combine_systems.specs.NodeSystems.{addends, sums, coefficient, IsNodeColumn}
 use Rattle.fvn_combine_systems.proofs.Zeroes.{zero_told}
-use Rattle.fvn_combine_leaves.specs.Leaves.{IsSumOperator, IsSolid, Uses, IsShared, IsLeaf}
+use Rattle.fvn_combine_leaves.specs.Leaves.{IsSumOperator, IsSolid, Uses, IsShared, HasTwin, IsLeaf}
 use Rattle.fvn_combine_choices.specs.Binding.{IsBound, solid, alone, tagged, IsConstant, IsRequired, AreAsked}
 use Rattle.fvn_combine_choices.specs.Choosing.{Systems, AreSystems}
 use Rattle.fvn_combine_choices.specs.Tables.{HasSums}
 use Rattle.fvn_combine_complete.specs.Obeying.{IsTold, GoWith, ObeyTags}
+use Rattle.fvn_combine_complete.proofs.Identities.{operator_told, unit_at}
 use Rattle.fvn_combine_complete.proofs.Values.{head_of_solid, bound_used}
 
 -- the places at which a list has a property, from a number on
@@ -100,18 +100,19 @@ module _ (P : ℕ → Type 0) where
           at zero = (λ e. absurd (true≢false e), λ h. absurd (fails h.1))
           at (suc j) = (λ e. let h = (r.1 j).0 e in ((let l = h.0 in omega (arith, l)), h.1), λ h. (r.1 j).1 ((let l = h.0 in omega (arith, l)), h.1))
 
-tag_told : (o : Option OpId) (f : OpId) → Decided (o ≡ Some f)
+pub tag_told : (o : Option OpId) (f : OpId) → Decided (o ≡ Some f)
 tag_told None f = inr (λ e. cc)
-tag_told (Some g) f = elim (cases_Bool (same_op g f)) [
-  | inl e ↦ inl (ap Some (same_op_is g f e))
-  | inr n ↦ inr (λ e. true≢false (sym (ap (λ o. same_op o f) (Some-injective e) ∙ same_op_itself f) ∙ n))
+tag_told (Some g) f = elim (operator_told g f) [
+  | inl e ↦ inl (ap Some e)
+  | inr n ↦ inr (λ e. n (Some-injective e))
 ]
 
-bare_told : (a : Axioms) → Decided (HasNoIdentity a)
+-- axioms have no identity, or one
+bare_told : (a : Axioms) → HasNoIdentity a ⊎ ((e : OpId) × (identity a ≡ Some e))
 bare_told Free = inl tt
 bare_told Comm = inl tt
 bare_told AssocComm = inl tt
-bare_told (AssocCommId e) = inr (λ b. b)
+bare_told (AssocCommId e) = inr (e, refl)
 
 associative_told : (a : Axioms) → Decided (IsAssociative a)
 associative_told Free = inr (λ b. b)
@@ -169,6 +170,40 @@ shared_told d t class told f k u = elim (told.heads k) [
   ]
 ]
 
+-- whether another operator that uses a class has f's identity: it is among those whose identities are nodes
+module _ (d : Declarations) (t : NodeTable) (has : HasSums d t) (class : ℕ → ℕ) (y : Systems) (systems : AreSystems d t class y) where
+  -- g uses class k, and its identity is e
+  pub record IsUserWith (e : OpId) (k : ℕ) (g : OpId) : Type 0 where
+    pub used : Uses d t class g k
+    pub unit : identity (axioms d g) ≡ Some e
+
+  pub user_with_told : (e : OpId) (k : ℕ) (g : OpId) → Decided (IsUserWith e k g)
+  user_with_told e k g = elim (user_told d t class y systems g k) [
+    | inr n ↦ inr (λ h. n h.used)
+    | inl u ↦ elim (tag_told (identity (axioms d g)) e) [
+      | inl i ↦ inl (record { used = u; unit = i })
+      | inr n ↦ inr (λ h. n h.unit)
+    ]
+  ]
+
+  twin_told : (f : OpId) (k : ℕ) (e : OpId) → identity (axioms d f) ≡ Some e → Decided (HasTwin d t class f k)
+  twin_told f k e i = elim (some_or_none IsTwin told t.units) [
+    | inl h ↦ inl (record { twin = h.0.0; other = h.1.1.0; same = h.1.1.1.unit ∙ sym i; uses = h.1.1.1.used })
+    | inr none ↦ inr (λ h.
+        let unit = unit_at d t has class h.twin k h.uses e (h.same ∙ i) in
+        let same = unit.of in
+        none unit.pair unit.listed (subst (λ g. (g ≢ f) × IsUserWith e k g) (sym same) (h.other, record { used = h.uses; unit = h.same ∙ i })))
+  ]
+    where
+      IsTwin : OpId × ℕ → Type 0
+      IsTwin p = (p.0 ≢ f) × IsUserWith e k p.0
+
+      told : (p : OpId × ℕ) → Decided (IsTwin p)
+      told p = both_or (other_told p.0) (user_with_told e k p.0)
+        where
+          other_told : (g : OpId) → Decided (g ≢ f)
+          other_told g = elim (operator_told g f) [ inl same ↦ inr (λ n. n same) | inr n ↦ inl n ]
+
 module _ (d : Declarations) (t : NodeTable) (made : IsWellMade t) (has : HasSums d t) (s : State) (leaf : IsLeaf d t s) (told : IsTold d t (class_of s)) (values : ℕ → FlatTerm) (go_with : GoWith d t s values) (tag : ℕ → Option OpId) (obey : ObeyTags d t (class_of s) tag values) where
   abbrev class : ℕ → ℕ
   class = class_of s
@@ -185,9 +220,9 @@ module _ (d : Declarations) (t : NodeTable) (made : IsWellMade t) (has : HasSums
 
   bound_told : (f : OpId) (k : ℕ) → Uses d t class f k → Decided (IsBound d t class tag f k)
   bound_told f k u = elim (told.heads k) [
-    | inl p ↦ elim (cases_Bool (same_op p.0 f)) [
-      | inl e ↦ inl (solid u.associative (subst (λ o. IsSolid d t class o k) (same_op_is p.0 f e) p.1))
-      | inr n ↦ inr (λ b. other_head f p.0 k p.1 (λ e. true≢false (sym (ap (λ o. same_op o f) e ∙ same_op_itself f) ∙ n)) b)
+    | inl p ↦ elim (operator_told p.0 f) [
+      | inl e ↦ inl (solid u.associative (subst (λ o. IsSolid d t class o k) e p.1))
+      | inr n ↦ inr (λ b. other_head f p.0 k p.1 n b)
     ]
     | inr soft ↦ elim (told.users f k) [
       | inl g ↦ elim (tag_told (tag k) f) [
@@ -205,20 +240,20 @@ module _ (d : Declarations) (t : NodeTable) (made : IsWellMade t) (has : HasSums
     | inr n ↦ inl (record { used = u; not_bound = n })
   ]
 
-  required_told : (f : OpId) (k : ℕ) → Decided (Uses d t class f k) → Decided (IsRequired d t class tag f k)
-  required_told f k (inr n) = inr (λ h. n (bound_used d t made has s leaf told values go_with tag obey f k h.bound))
-  required_told f k (inl u) = elim (bound_told f k u) [
+  required_told : (y : Systems) → AreSystems d t class y → (f : OpId) (k : ℕ) → Decided (Uses d t class f k) → Decided (IsRequired d t class tag f k)
+  required_told y systems f k (inr n) = inr (λ h. n (bound_used d t made has s leaf told values go_with tag obey f k h.bound))
+  required_told y systems f k (inl u) = elim (bound_told f k u) [
     | inr n ↦ inr (λ h. n h.bound)
-    | inl b ↦ elim (shared_told d t class told f k u) [
-      | inl shared ↦ inl (record { bound = b; why = inl shared })
-      | inr not_shared ↦ elim (bare_told (axioms d f)) [
-        | inl bare ↦ inl (record { bound = b; why = inr bare })
-        | inr named ↦ inr (λ h. refuted not_shared named h.why)
+    | inl b ↦ elim (bare_told (axioms d f)) [
+      | inl bare ↦ inl (record { bound = b; why = inl bare })
+      | inr unit ↦ elim (twin_told d t has class y systems f k unit.0 unit.1) [
+        | inl twin ↦ inl (record { bound = b; why = inr twin })
+        | inr no_twin ↦ inr (λ h. refuted (λ bare. identity_of (axioms d f) unit.0 bare unit.1) no_twin h.why)
       ]
     ]
   ]
     where
-      refuted : (IsShared d t class k → ⊥) → (HasNoIdentity (axioms d f) → ⊥) → IsShared d t class k ⊎ HasNoIdentity (axioms d f) → ⊥
+      refuted : (HasNoIdentity (axioms d f) → ⊥) → (HasTwin d t class f k → ⊥) → HasNoIdentity (axioms d f) ⊎ HasTwin d t class f k → ⊥
       refuted n m (inl a) = n a
       refuted n m (inr b) = m b
 
@@ -228,11 +263,11 @@ module _ (d : Declarations) (t : NodeTable) (made : IsWellMade t) (has : HasSums
     pub may_be_zero : List Bool
     pub are_asked : AreAsked d t class tag f columns constants may_be_zero
 
-  pub asked : (f : OpId) → IsSumOperator d t f → (columns : List ℕ) → ((k : ℕ) → Contains columns k ↔ IsNodeColumn t class f k) → Asked f columns
-  asked f sum columns exact =
+  pub asked : (y : Systems) → AreSystems d t class y → (f : OpId) → IsSumOperator d t f → (columns : List ℕ) → ((k : ℕ) → Contains columns k ↔ IsNodeColumn t class f k) → Asked f columns
+  asked y systems f sum columns exact =
       let told_at = λ (k : ℕ) (c : Contains columns k). uses_told d t class f sum.associative k ((exact k).0 c) in
       let constants = places_of (IsConstant d t class tag f) 0 columns (λ k c. constant_told f k (told_at k c)) in
-      let marks = marks_of (IsRequired d t class tag f) columns (λ k c. required_told f k (told_at k c)) in
+      let marks = marks_of (IsRequired d t class tag f) columns (λ k c. required_told y systems f k (told_at k c)) in
       record {
         constants = constants.places;
         may_be_zero = marks.0;

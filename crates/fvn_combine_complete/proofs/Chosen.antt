@@ -5,6 +5,7 @@ use Rattle.std.proofs.lemmas.Bool.{cases_eq, or_cases}
 use Rattle.std.proofs.lemmas.List.{get_or-map, get_or_default}
 use Rattle.std.proofs.lemmas.List.Sums.{sum_by-cons}
 use Rattle.std.proofs.lemmas.List.Elements.{All-map, All-contains, Contains-get_or}
+use Rattle.fvn_base.proofs.Membership.{contains_here}
 use Rattle.fvn_terms.specs.declared.plain.OpId.{OpId}
 use Rattle.fvn_terms.specs.declared.declarations.Declarations.{Declarations}
 use Rattle.fvn_forms.specs.Flat.{FlatTerm}
@@ -194,7 +195,12 @@ module _ (d : Declarations) (t : NodeTable) (made : IsWellMade t) (has : HasSums
       let right = ap (λ v. get_or v e.column 0) v_is ∙ sym (e.component_is together.solution) in
       let p = together.left in
       let q = together.right in
-      let two = shared_two d t made has s leaf told values go_with c.tag obey f k shared b in
+      let place_left = ap (λ v. component (y.columns f) v k) (get_or_default (taken y c f) m.0 [] together.solution m.1 ∙ m.2) in
+      let piece = alone_piece m.0 l m.1 h (omega (arith, place_right, q)) in
+      let laid = laid_counts (y.columns f) k (values l) (taken y c f) (marked marks ch.pieces) m.0 m.1 (omega (arith, place_left, p)) (subst (λ z. Contains z (values l)) (sym piece) (contains_here (values l) [])) in
+      let same = made_for k u (values l) in
+      let some = (contains_counted (values l) (parts d f (values k)) (omega (arith, laid, same))).1 in
+      let two = shared_two d t made has s leaf told values go_with c.tag obey f k shared b (omega (arith, some)) in
       let same_length = ap (λ n. length (parts d f (values n))) a.of in
       let count = law d f values (y.columns f) (y.system f) (y.basis f) exact constants may_be_zero ch r.place a.column e.column r.within (has_pieces m.0 l m.1 h (omega (arith, place_right, q))) a.within (used_column k u)
       ((are_asked.are_constant e.column).1 (e.within, subst (IsConstant d t class c.tag f) (sym e.of) h)) (omega (arith, two, same_length)) (omega (arith, left, p)) (omega (arith, right, q)) in

@@ -186,7 +186,10 @@ module _ (d : Declarations) (t : NodeTable) (made : IsWellMade t) (has : HasSums
       is_alias : IsBound d t class c.tag f k → length (parts d f (values k)) < 2 → alias k ≡ 1
       is_alias (solid assoc m) few = absurd (let two = solid_two d t made has s leaf told values go_with c.tag obeying.tags f k assoc m in omega (arith, two, few))
       is_alias (alone u soft only) few = alone_alias f k soft only
-      is_alias (tagged u shared e) few = absurd (let two = shared_two d t made has s leaf told values go_with c.tag obeying.tags f k shared (tagged u shared e) in omega (arith, two, few))
+      is_alias (tagged u shared e) few = absurd (
+          let some = among.1 in
+          let two = shared_two d t made has s leaf told values go_with c.tag obeying.tags f k shared (tagged u shared e) (omega (arith, some)) in
+          omega (arith, two, few))
 
   falls : Falls d t class y c rank
   falls k l (argument i f ks j over simple of among other) =

@@ -1,5 +1,6 @@
 -- Lemmas on the values of classes at a leaf.
 mod Heads
+mod Identities
 mod Values
 mod Meeting
 mod Supporting

@@ -17,7 +17,7 @@ use Rattle.fvn_combine_leaves.specs.Leaves.{IsLeaf, IsSumOperator, Uses, IsShare
 use Rattle.fvn_combine_choices.specs.Choosing.{Systems, Choice, AreSystems, IsAcceptable, IsPossible}
 use Rattle.fvn_combine_complete.specs.Laws.{ValuesChoose, NoAliases, IsChosen}
 use Rattle.fvn_combine_choices.specs.Tables.{HasSums}
-use Rattle.fvn_combine_complete.specs.Obeying.{IsTold, GoWith, IsSumOf, ObeyTags}
+use Rattle.fvn_combine_complete.specs.Obeying.{IsTold, GoWith, IsSumOrIdentityOf, ObeyTags}
 use Rattle.fvn_combine_complete.specs.Full.{HasNoConstant, IsFull}
 use Rattle.fvn_combine_complete.specs.Neutral.{IsNeutral}
 use Rattle.fvn_combine_complete.specs.Obeyed.{AreMadeOf, AreObeying}
@@ -26,25 +26,29 @@ use Rattle.fvn_combine_complete.proofs.Chosen.{made_of, acceptable}
 use Rattle.fvn_combine_complete.proofs.Marked.{number_by, marked, AreMarks, marks_of, are_marks, marks_long, also_marked, bit_marked}
 use Rattle.fvn_combine_complete.proofs.NeutralTold.{neutral_told}
 use Rattle.fvn_combine_complete.proofs.Touching.{bare_is}
-use Rattle.fvn_combine_complete.proofs.Tagging.{sum_head, sum_told as headed_told}
+use Rattle.fvn_combine_complete.proofs.Tagging.{tags_exist}
 
 module _ (choose : ValuesChoose) (aliases : NoAliases) (law : MadeUpByTaken) (d : Declarations) (good : IsGood d) (t : NodeTable) (made : IsWellMade t) (has : HasSums d t) (s : State) (leaf : IsLeaf d t s) (told : IsTold d t (class_of s)) (y : Systems) (systems : AreSystems d t (class_of s) y) (values : ℕ → FlatTerm) (go_with : GoWith d t s values) where
   abbrev class : ℕ → ℕ
   class = class_of s
 
-  -- the tag of a class: the operator of which its value is a sum, where the class is shared and this uses it
+  -- tags that the values obey, whatever classes are shared
+  found : (tag : ℕ → Option OpId) × ObeyTags d t class tag values
+  found = tags_exist d t made has s leaf y systems values go_with
+
+  -- the tag of a class: the operator of which its value is a sum, or the identity, where the class is shared and this uses it
   record Tag (k : ℕ) (o : Option OpId) : Type 0 where
     right : (f : OpId) → o ≡ Some f → IsShared d t class k × Uses d t class f k
-    obeyed : (f : OpId) → IsShared d t class k → Uses d t class f k → (o ≡ Some f) ↔ IsSumOf f (values k)
+    obeyed : (f : OpId) → IsShared d t class k → Uses d t class f k → (o ≡ Some f) ↔ IsSumOrIdentityOf d f (values k)
 
-  no_tag : (k : ℕ) → ((f : OpId) → IsShared d t class k → Uses d t class f k → IsSumOf f (values k) → ⊥) → Tag k None
+  no_tag : (k : ℕ) → ((f : OpId) → IsShared d t class k → Uses d t class f k → IsSumOrIdentityOf d f (values k) → ⊥) → Tag k None
   no_tag k n = record { right = λ f e. cc; obeyed = λ f shared u. (λ e. cc, λ h. absurd (n f shared u h)) }
 
   tag_at : (k : ℕ) → (o : Option OpId) × Tag k o
-  tag_at k = go (sum_head (values k)) refl
+  tag_at k = go (found.0 k) refl
     where
-      go : (o : Option OpId) → sum_head (values k) ≡ o → (o : Option OpId) × Tag k o
-      go None e = (None, no_tag k (λ f shared u h. let m : None ≡ Some f = sym e ∙ (headed_told f (values k)).1 h in cc))
+      go : (o : Option OpId) → found.0 k ≡ o → (o : Option OpId) × Tag k o
+      go None e = (None, no_tag k (λ f shared u h. let m : None ≡ Some f = sym e ∙ (found.1 k f shared u).1 h in cc))
       go (Some g) e = elim (user_told d t class y systems g k) [
         | inl u ↦ elim (shared_told d t class told g k u) [
           | inl shared ↦ (
@@ -52,14 +56,14 @@ module _ (choose : ValuesChoose) (aliases : NoAliases) (law : MadeUpByTaken) (d 
             record {
               right = λ f m. (shared, subst (λ o. Uses d t class o k) (Some-injective m) u);
               obeyed = λ f also w. (
-                λ m. (headed_told f (values k)).0 (e ∙ m),
-                λ h. sym e ∙ (headed_told f (values k)).1 h,
+                λ m. (found.1 k f also w).0 (e ∙ m),
+                λ h. sym e ∙ (found.1 k f also w).1 h,
               );
             },
           )
           | inr n ↦ (None, no_tag k (λ f shared w h. n shared))
         ]
-        | inr n ↦ (None, no_tag k (λ f shared w h. n (subst (λ o. Uses d t class o k) (Some-injective (sym ((headed_told f (values k)).1 h) ∙ e)) w)))
+        | inr n ↦ (None, no_tag k (λ f shared w h. n (subst (λ o. Uses d t class o k) (Some-injective (sym ((found.1 k f shared w).1 h) ∙ e)) w)))
       ]
 
   tag : ℕ → Option OpId
@@ -71,7 +75,7 @@ module _ (choose : ValuesChoose) (aliases : NoAliases) (law : MadeUpByTaken) (d 
 
   -- what is asked for an operator, and what is chosen for it
   asked_for : (f : OpId) → IsSumOperator d t f → Asked d t made has s leaf told values go_with tag obey f (y.columns f)
-  asked_for f sum = asked d t made has s leaf told values go_with tag obey f sum (y.columns f) (systems.is_system f sum).exact
+  asked_for f sum = asked d t made has s leaf told values go_with tag obey y systems f sum (y.columns f) (systems.is_system f sum).exact
 
   chosen_for : (f : OpId) (sum : IsSumOperator d t f) → IsChosen d f values (y.columns f) (y.system f) (y.basis f) (asked_for f sum).constants (asked_for f sum).may_be_zero
   chosen_for f sum =

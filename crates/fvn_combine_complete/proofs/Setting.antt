@@ -34,7 +34,7 @@ use Rattle.fvn_combine_complete.specs.Obeyed.{AreObeying}
 use Rattle.fvn_combine_choices.specs.Tables.{HasSums}
 use Rattle.fvn_combine_complete.specs.Obeying.{IsTold, GoWith}
 use Rattle.fvn_combine_nodes.proofs.Subterms.{node_kinded}
-use Rattle.fvn_combine_complete.proofs.Values.{own_name}
+use Rattle.fvn_combine_complete.proofs.Identities.{own_name}
 
 -- a leaf that admits a unifier's partition, a choice that the unifier's values obey, and a plan of the choice
 pub record Setting (d : Declarations) (problem : Problem) (t : NodeTable) (s : State) (y : Systems) (u : Substitution) (c : Choice) (first next : ℕ) (plan : Plan) : Type 0 where
@@ -122,7 +122,7 @@ module _ {d : Declarations} {problem : Problem} {t : NodeTable} {s : State} {y :
 
   -- a class that is used is a node's name
   pub column_within : (f : OpId) (k : ℕ) → Uses d t class f k → k < length t.nodes
-  column_within f k uses = (own_name d t g.made g.has s g.leaf g.told values g.go_with c.tag g.obeying.tags f k uses.column).within
+  column_within f k uses = (own_name d t g.made s g.leaf f k uses.column).within
 
   -- names of classes
   pub name_kinded : (k : ℕ) → k < length t.nodes → IsSort d (plan.name k).sort × (kind d (plan.name k).sort ≡ (plan.name k).sort)

@@ -1,5 +1,5 @@
 -- Classes whose values have two summands or more.
-use Rattle.std.proofs.Common.{◌≡◌, ℕ, ◌≤◌, true, List, [], ◌∷◌, ◌++◌, length, sym, ap, ◌∙◌, subst, arith, Option}
+use Rattle.std.proofs.Common.{◌≡◌, ℕ, ◌≤◌, true, List, [], ◌∷◌, ◌++◌, length, sym, ap, ◌∙◌, subst, inl, inr, arith, Option}
 use Rattle.std.specs.Prelude.{cond}
 use Rattle.std.proofs.lemmas.List.{length-append}
 use Rattle.fvn_terms.specs.declared.plain.OpId.{OpId}
@@ -9,7 +9,7 @@ use Rattle.fvn_terms.specs.Equality.{IsAssociative}
 use Rattle.fvn_forms.specs.Flat.{FlatTerm, FlatTerms, fapp, funpack}
 use Rattle.fvn_forms.specs.Canon.{parts, all_parts}
 use Rattle.fvn_forms.specs.Settled.{Settled}
-use Rattle.fvn_forms.proofs.Build.{parts_build}
+use Rattle.fvn_forms.proofs.Build.{parts_build, parts_identity}
 use Rattle.fvn_forms.proofs.InOrder.{length_sort}
 use Rattle.fvn_forms.proofs.Sums.{same_op_itself}
 use Rattle.fvn_combine_nodes.specs.Table.{NodeTable, IsWellMade, IsOver}
@@ -22,7 +22,7 @@ use Rattle.fvn_combine_complete.specs.Obeying.{IsTold, GoWith, ObeyTags}
 use Rattle.fvn_combine_nodes.proofs.Heading.{some_part}
 
 -- a form that is a sum of f has two summands
-two_summands : (d : Declarations) (f : OpId) (ts : FlatTerms) (v : FlatTerm) → v ≡ fapp f true ts → Settled d v → 2 ≤ length (parts d f v)
+pub two_summands : (d : Declarations) (f : OpId) (ts : FlatTerms) (v : FlatTerm) → v ≡ fapp f true ts → Settled d v → 2 ≤ length (parts d f v)
 two_summands d f ts v is settled =
     let two = (subst (Settled d) is settled).0.two_or_more in
     let p : parts d f (fapp f true ts) ≡ funpack ts = ap (λ b. cond b (funpack ts) (fapp f true ts ∷ [])) (same_op_itself f) in
@@ -33,10 +33,14 @@ module _ (d : Declarations) (t : NodeTable) (made : IsWellMade t) (has : HasSums
   abbrev class : ℕ → ℕ
   class = class_of s
 
-  pub shared_two : (f : OpId) (k : ℕ) → IsShared d t class k → IsBound d t class tag f k → 2 ≤ length (parts d f (values k))
-  shared_two f k shared (solid assoc p) = absurd (shared.soft f p)
-  shared_two f k shared (alone u soft only) = absurd (shared.different (only shared.first shared.uses_first ∙ sym (only shared.second shared.uses_second)))
-  shared_two f k shared (tagged u again e) = let sum = (obey k f shared u).0 e in two_summands d f sum.0 (values k) sum.1 (go_with.are.settled k)
+  -- a shared class that is bound to f has two summands, where it has one
+  pub shared_two : (f : OpId) (k : ℕ) → IsShared d t class k → IsBound d t class tag f k → 1 ≤ length (parts d f (values k)) → 2 ≤ length (parts d f (values k))
+  shared_two f k shared (solid assoc p) some = absurd (shared.soft f p)
+  shared_two f k shared (alone u soft only) some = absurd (shared.different (only shared.first shared.uses_first ∙ sym (only shared.second shared.uses_second)))
+  shared_two f k shared (tagged u again e) some = elim ((obey k f shared u).0 e) [
+    | inl sum ↦ two_summands d f sum.0 (values k) sum.1 (go_with.are.settled k)
+    | inr unit ↦ absurd (let none = ap length (ap (parts d f) unit.2 ∙ parts_identity d f unit.0 unit.1) in omega (arith, none, some))
+  ]
 
   pub solid_two : (f : OpId) (k : ℕ) → IsAssociative (axioms d f) → IsSolid d t class f k → 2 ≤ length (parts d f (values k))
   solid_two f k assoc h = over h.arguments h.over (has.pairs h.member f h.arguments h.over assoc).0

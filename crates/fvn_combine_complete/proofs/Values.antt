@@ -1,16 +1,15 @@
 -- The values of classes: constants are single summands, and bound classes have summands.
-use Rattle.std.proofs.Common.{◌≡◌, ◌≢◌, ◌⊎◌, ℕ, ◌+◌, ◌-◌, ◌<◌, ◌≤◌, true, List, [], ◌∷◌, length, map, get_or, refl, sym, ap, ◌∙◌, subst, inl, inr, arith, Contains, Option, Some, slice_get}
-use Rattle.std.specs.Prelude.{cond, pos, ◌-ℤ◌}
+use Rattle.std.proofs.Common.{◌≡◌, ◌≢◌, ◌⊎◌, ℕ, ◌+◌, ◌-◌, ◌<◌, ◌≤◌, List, [], ◌∷◌, length, map, get_or, refl, sym, ap, ◌∙◌, subst, inl, inr, arith, Contains, Option, Some, slice_get}
+use Rattle.std.specs.Prelude.{pos, ◌-ℤ◌}
 use Rattle.std.specs.List.{AllByRecursion}
 use Rattle.std.proofs.lemmas.Bool.{cases_eq, eq-eqb, ne_eqb}
 use Rattle.std.proofs.lemmas.List.{length-map}
-use Rattle.std.proofs.lemmas.Option.{slice_get_within}
 use Rattle.fvn_base.proofs.Membership.{contains_filter}
 use Rattle.fvn_terms.specs.declared.plain.OpId.{OpId}
 use Rattle.fvn_terms.specs.declared.declarations.Declarations.{Declarations}
 use Rattle.fvn_terms.specs.Signature.{axioms}
 use Rattle.fvn_terms.specs.Equality.{IsAssociative, identity}
-use Rattle.fvn_forms.specs.Flat.{FlatTerm, FlatTerms, fapp, funpack, fconstant}
+use Rattle.fvn_forms.specs.Flat.{FlatTerm, fconstant}
 use Rattle.fvn_forms.specs.InOrder.{one_if, count}
 use Rattle.fvn_forms.specs.Canon.{parts, build}
 use Rattle.fvn_forms.specs.Settled.{Settled}
@@ -24,17 +23,17 @@ use Rattle.fvn_flat.specs.Partitions.{HasNoIdentity}
 use Rattle.fvn_combine_nodes.specs.Table.{NodeTable, IsWellMade, IsOver}
 use Rattle.fvn_combine_nodes.specs.States.{IsOpen, class_of}
 use Rattle.fvn_combine_nodes.specs.declared.state.State.{State}
-use Rattle.fvn_combine_nodes.specs.declared.table.Node.TheVariants.{App}
-use Rattle.fvn_combine_nodes.proofs.Admitting.{decided, named_within}
 use Rattle.fvn_combine_nodes.proofs.Heading.{identity_of, some_part, build_head}
-use Rattle.fvn_combine_systems.specs.NodeSystems.{is_headed, addends, stands_in, coefficient, IsNodeColumn}
-use Rattle.fvn_combine_systems.proofs.Members.{column_of_node, over_addends}
+use Rattle.fvn_combine_systems.specs.NodeSystems.{is_headed, addends, stands_in, coefficient}
+use Rattle.fvn_combine_systems.proofs.Members.{over_addends}
 use Rattle.fvn_combine_systems.proofs.Weighing.{balance}
-use Rattle.fvn_combine_leaves.specs.Leaves.{IsSolid, Uses, IsShared, IsSingle, MayBeConstant, HaveTwoHeads, AreTold, IsLive, IsLeaf}
+use Rattle.fvn_combine_leaves.specs.Leaves.{IsSolid, Uses, IsShared, HasTwin, IsSingle, MayBeConstant, HaveTwoHeads, IsLive, IsLeaf}
 use Rattle.fvn_combine_choices.specs.Binding.{IsBound, solid, alone, tagged, IsConstant, IsRequired}
 use Rattle.fvn_combine_choices.specs.Tables.{HasSums}
-use Rattle.fvn_combine_complete.specs.Obeying.{IsTold, GoWith, IsSumOf, ObeyTags}
+use Rattle.fvn_combine_complete.specs.Obeying.{IsTold, GoWith, IsSumOf, IsSumOrIdentityOf, ObeyTags}
 use Rattle.fvn_combine_complete.proofs.Heads.{build_constant, single_part}
+use Rattle.fvn_combine_complete.proofs.Identities.{UnitAt, unit_at, IsName, own_name, same_class, no_twin_identity}
+use Rattle.fvn_combine_complete.proofs.TwoSummands.{two_summands}
 
 equal_parts : (m n : ℕ) → pos m -ℤ pos n ≡ pos 0 → m ≡ n
 equal_parts m n e = let b = balance m n in let a : above (pos m -ℤ pos n) ≡ 0 = ap above e in let c : below (pos m -ℤ pos n) ≡ 0 = ap below e in omega (arith, a, b, c)
@@ -55,21 +54,6 @@ module _ (d : Declarations) (t : NodeTable) (made : IsWellMade t) (has : HasSums
       ∙ build_head d f h.no_identity (map (λ k. values (class k)) h.arguments) (settled_values h.arguments)
       (λ assoc. length-map h.arguments (λ k. values (class k)) ∙ (has.pairs h.member f h.arguments h.over assoc).0)
 
-  -- the name of a class is a node in it
-  pub record IsName (k : ℕ) : Type 0 where
-    pub own : class k ≡ k
-    pub within : k < length t.nodes
-
-  pub own_name : (f : OpId) (k : ℕ) → IsNodeColumn t class f k → IsName k
-  own_name f k h = let n = column_of_node made.ordered f k h in at n.0 n.1.0 n.1.1
-    where
-      at : (i : ℕ) → i < length t.nodes → class i ≡ k → IsName k
-      at i l e =
-          let w = leaf.closed.whole in
-          let m : i < length s.names = omega (arith, l, w) in
-          let n = named_within s leaf.closed.naming i m in
-          record { own = ap class (sym e) ∙ (leaf.closed.naming.named i m).1 ∙ e; within = omega (arith, n, w, e) }
-
   -- why a constant is none that is bound
   pub constant_why : (f : OpId) (k : ℕ) → IsConstant d t class tag f k → ((g : OpId) × (g ≢ f) × IsSolid d t class g k) ⊎ IsShared d t class k
   constant_why f k h = elim (told.heads k) [
@@ -83,53 +67,34 @@ module _ (d : Declarations) (t : NodeTable) (made : IsWellMade t) (has : HasSums
   pub may_be : (f : OpId) (k : ℕ) → IsConstant d t class tag f k → MayBeConstant d t class f k
   may_be f k h = record { used = h.used; why = constant_why f k h }
 
+  -- its value is no sum of f, and not f's identity
+  constant_other : (f : OpId) (k : ℕ) → IsConstant d t class tag f k → IsShared d t class k → IsSumOrIdentityOf d f (values k) → ⊥
+  constant_other f k h shared is = h.not_bound (tagged h.used shared ((obey k f shared h.used).1 is))
+
   constant_no_sum : (f : OpId) (k : ℕ) → IsConstant d t class tag f k → IsSumOf f (values k) → ⊥
   constant_no_sum f k h sum = elim (constant_why f k h) [
     | inl p ↦ p.1 (let e : Some p.0 ≡ Some f = sym (head_of_solid p.0 k p.2) ∙ ap head_of sum.1 in cc)
-    | inr shared ↦ h.not_bound (tagged h.used shared ((obey k f shared h.used).1 sum))
-  ]
-
-  -- the class of a node is that of the value
-  same_class : (k n : ℕ) → IsName k → n < length t.nodes → IsOpen s k n ⊎ ((k ≡ class n) ⊎ (values k ≢ values (class n)))
-  same_class k n name within = elim (decided s k n) [
-    | inl o ↦ inl o
-    | inr r ↦ elim r [
-      | inl e ↦ inr (inl (sym name.own ∙ e))
-      | inr a ↦ inr (inr (λ e. go_with.differ k n name.within within a (ap values name.own ∙ e)))
-    ]
+    | inr shared ↦ constant_other f k h shared (inl sum)
   ]
 
   constant_no_identity : (f : OpId) (k : ℕ) → IsConstant d t class tag f k → (e : OpId) → identity (axioms d f) ≡ Some e → values k ≡ fconstant e → ⊥
-  constant_no_identity f k h e i is = go (has.all_units h.used.column.sum f e (h.used.column.left ∷ h.used.column.right ∷ []) h.used.column.listed h.used.column.over i)
+  constant_no_identity f k h e i is = elim (constant_why f k h) [
+    | inr shared ↦ constant_other f k h shared (inr (e, i, is))
+    | inl q ↦
+        let heads : Some q.0 ≡ Some e = sym (head_of_solid q.0 k q.2) ∙ ap head_of is in
+        let g_is : q.0 ≡ e = cc in
+        headed (subst (λ o. IsSolid d t class o k) g_is q.2) (unit_at d t has class f k h.used e i)
+  ]
     where
-      go : (u : (j : ℕ) × (p : OpId × ℕ) × (j < length t.units) × (get_or t.units j p ≡ p) × (p.0 ≡ f)) → ⊥
-      go (j, p, l, at, same) =
-          let unit = has.units p (j, l, at) in
-          let one : Some unit.0 ≡ Some e = sym unit.1 ∙ ap (λ o. identity (axioms d o)) same ∙ i in
-          let is_e : unit.0 ≡ e = cc in
-          let over : IsOver t.nodes p.1 e [] = subst (λ o. IsOver t.nodes p.1 o []) is_e unit.2 in
-          let not_identity : k ≡ class p.1 → ⊥ = λ q. h.used.column.no_identity (j, p, l, at, (same, sym q)) in
-          let value : values (class p.1) ≡ fconstant e = go_with.are.built p.1 e [] over in
-          elim (constant_why f k h) [
-            | inl q ↦
-                let heads : Some q.0 ≡ Some e = sym (head_of_solid q.0 k q.2) ∙ ap head_of is in
-                let g_is : q.0 ≡ e = cc in
-                let m : IsSolid d t class e k = subst (λ o. IsSolid d t class o k) g_is q.2 in
-                let plain : IsAssociative (axioms d e) → ⊥ = λ assoc. (let n = (has.pairs p.1 e [] over assoc).0 in omega (arith, n)) in
-                let nothing = build_constant d e plain (map (λ k. values (class k)) m.arguments) (sym (go_with.are.built m.member e m.arguments m.over) ∙ ap values m.of ∙ is) in
-                let none : m.arguments ≡ [] = map_nothing m.arguments nothing in
-                let same_node : class m.member ≡ class p.1 =
-                (leaf.partition.nodes m.member p.1 e e [] [] (subst (IsOver t.nodes m.member e) none m.over) over).congruent refl refl
-                in
-                not_identity (sym m.of ∙ same_node)
-            | inr shared ↦ elim (same_class k p.1 (own_name f k h.used.column) (slice_get_within t.nodes p.1 (App e []) over)) [
-              | inl o ↦ leaf.identities f k shared h.used p (j, l, at) same o
-              | inr r ↦ elim r [
-                | inl q ↦ not_identity q
-                | inr n ↦ n (is ∙ sym value)
-              ]
-            ]
-          ]
+      headed : IsSolid d t class e k → UnitAt d t class f k e → ⊥
+      headed m unit =
+          let plain : IsAssociative (axioms d e) → ⊥ = λ assoc. (let n = (has.pairs unit.pair.1 e [] unit.over assoc).0 in omega (arith, n)) in
+          let nothing = build_constant d e plain (map (λ k. values (class k)) m.arguments) (sym (go_with.are.built m.member e m.arguments m.over) ∙ ap values m.of ∙ is) in
+          let none : m.arguments ≡ [] = map_nothing m.arguments nothing in
+          let same_node : class m.member ≡ class unit.pair.1 =
+          (leaf.partition.nodes m.member unit.pair.1 e e [] [] (subst (IsOver t.nodes m.member e) none m.over) unit.over).congruent refl refl
+          in
+          unit.apart (sym m.of ∙ same_node)
         where
           map_nothing : (ks : List ℕ) → map (λ k. values (class k)) ks ≡ [] → ks ≡ []
           map_nothing [] z = refl
@@ -148,14 +113,17 @@ module _ (d : Declarations) (t : NodeTable) (made : IsWellMade t) (has : HasSums
       unbound (alone used soft only) = soft h.head h.solid
       unbound (tagged used shared is) = shared.soft h.head h.solid
 
+  name_of : (f : OpId) (k : ℕ) → IsConstant d t class tag f k → IsName t class k
+  name_of f k h = own_name d t made s leaf f k h.used.column
+
   -- two constants that are touched together differ
   pub constants_differ : (f : OpId) (k l : ℕ) → IsConstant d t class tag f k → IsConstant d t class tag f l → k ≢ l → HaveTwoHeads d t class k l ⊎ (IsOpen s k l → ⊥) → values k ≢ values l
   constants_differ f k l hk hl n (inl two) e = two.different (let p : Some two.first ≡ Some two.second = sym (head_of_solid two.first k two.heads_first) ∙ ap head_of e ∙ head_of_solid two.second l two.heads_second in cc)
-  constants_differ f k l hk hl n (inr closed_pair) e = elim (same_class k l (own_name f k hk.used.column) (own_name f l hl.used.column).within) [
+  constants_differ f k l hk hl n (inr closed_pair) e = elim (same_class d t s values go_with k l (name_of f k hk) (name_of f l hl).within) [
     | inl o ↦ closed_pair o
     | inr r ↦ elim r [
-      | inl q ↦ n (q ∙ (own_name f l hl.used.column).own)
-      | inr m ↦ m (e ∙ sym (ap values (own_name f l hl.used.column).own))
+      | inl q ↦ n (q ∙ (name_of f l hl).own)
+      | inr m ↦ m (e ∙ sym (ap values (name_of f l hl).own))
     ]
   ]
 
@@ -241,23 +209,17 @@ module _ (d : Declarations) (t : NodeTable) (made : IsWellMade t) (has : HasSums
   pub required_some : (f : OpId) (k : ℕ) → IsRequired d t class tag f k → (q : FlatTerm) × (0 < count q (parts d f (values k)))
   required_some f k h = some (parts d f (values k)) refl (long h.why h.bound)
     where
-      shared_long : IsShared d t class k → IsBound d t class tag f k → 1 ≤ length (parts d f (values k))
-      shared_long shared (solid assoc p) = absurd (shared.soft f p)
-      shared_long shared (alone u soft only) = absurd (shared.different (only shared.first shared.uses_first ∙ sym (only shared.second shared.uses_second)))
-      shared_long shared (tagged u again e) =
-          let sum = (obey k f shared u).0 e in
-          sum_long sum.0 sum.1 (subst (Settled d) sum.1 (go_with.are.settled k))
-        where
-          sum_long : (ts : FlatTerms) → values k ≡ fapp f true ts → Settled d (fapp f true ts) → 1 ≤ length (parts d f (values k))
-          sum_long ts is settled =
-              let two = settled.0.two_or_more in
-              let p : parts d f (fapp f true ts) ≡ funpack ts = ap (λ b. cond b (funpack ts) (fapp f true ts ∷ [])) (same_op_itself f) in
-              let n = ap length (ap (parts d f) is ∙ p) in
-              omega (arith, two, n)
+      with_twin : HasTwin d t class f k → IsBound d t class tag f k → 1 ≤ length (parts d f (values k))
+      with_twin twin (solid assoc p) = some_part d f p.no_identity (values k) (go_with.are.settled k)
+      with_twin twin (alone u soft only) = absurd (twin.other (only twin.twin twin.uses))
+      with_twin twin (tagged u shared e) = elim ((obey k f shared u).0 e) [
+        | inl sum ↦ (let two = two_summands d f sum.0 (values k) sum.1 (go_with.are.settled k) in omega (arith, two))
+        | inr unit ↦ absurd (no_twin_identity d t made has s leaf values go_with f k shared u twin unit.0 unit.1 unit.2)
+      ]
 
-      long : IsShared d t class k ⊎ HasNoIdentity (axioms d f) → IsBound d t class tag f k → 1 ≤ length (parts d f (values k))
-      long (inl shared) b = shared_long shared b
-      long (inr bare) b = some_part d f bare (values k) (go_with.are.settled k)
+      long : HasNoIdentity (axioms d f) ⊎ HasTwin d t class f k → IsBound d t class tag f k → 1 ≤ length (parts d f (values k))
+      long (inl bare) b = some_part d f bare (values k) (go_with.are.settled k)
+      long (inr twin) b = with_twin twin b
 
       some : (l : List FlatTerm) → parts d f (values k) ≡ l → 1 ≤ length (parts d f (values k)) → (q : FlatTerm) × (0 < count q (parts d f (values k)))
       some [] e n = absurd (let m = ap length e in omega (arith, m, n))

@@ -1,4 +1,4 @@
--- Laws of plans.
+-- Laws of values at a leaf.
 use Rattle.std.specs.Prelude.{◌≡◌, ◌↔◌, ℕ, ◌<◌, ◌≤◌, Bool, true, List, [], length, slice_index, slice_index_or, Option, Contains}
 use Rattle.fvn_terms.specs.declared.plain.OpId.{OpId}
 use Rattle.fvn_terms.specs.declared.declarations.Declarations.{Declarations}
@@ -101,9 +101,11 @@ ReadingsTell = (d : Declarations) (t : NodeTable) (s : State) → IsClosed d t s
 abbrev pub TablesHaveSums : Type 0
 TablesHaveSums = (d : Declarations) → FitsKinds d → (problem : Problem) → IsProblem d problem → (t : NodeTable) → IsWellMade t → IsTableOf d problem t → HasSums d t
 
--- all values obey some tags
+-- values that go with a leaf obey some tags
 abbrev pub TagsExist : Type 0
-TagsExist = (d : Declarations) (t : NodeTable) (class : ℕ → ℕ) (values : ℕ → FlatTerm) → (tag : ℕ → Option OpId) × ObeyTags d t class tag values
+TagsExist =
+    (d : Declarations) (t : NodeTable) → IsWellMade t → HasSums d t → (s : State) → IsLeaf d t s → (y : Systems) → AreSystems d t (class_of s) y
+    → (values : ℕ → FlatTerm) → GoWith d t s values → (tag : ℕ → Option OpId) × ObeyTags d t (class_of s) tag values
 
 -- values that a unifier gives go with each state that admits its partition
 abbrev pub UnifiersGoWith : Type 0

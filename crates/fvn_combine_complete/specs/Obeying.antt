@@ -2,7 +2,9 @@
 use Rattle.std.specs.Prelude.{◌≡◌, ◌≢◌, ◌⊎◌, ◌↔◌, ℕ, ◌<◌, true, length, Option, Some}
 use Rattle.fvn_terms.specs.declared.plain.OpId.{OpId}
 use Rattle.fvn_terms.specs.declared.declarations.Declarations.{Declarations}
-use Rattle.fvn_forms.specs.Flat.{FlatTerm, FlatTerms, fapp}
+use Rattle.fvn_terms.specs.Signature.{axioms}
+use Rattle.fvn_terms.specs.Equality.{identity}
+use Rattle.fvn_forms.specs.Flat.{FlatTerm, FlatTerms, fapp, fconstant}
 use Rattle.fvn_combine_nodes.specs.Table.{NodeTable}
 use Rattle.fvn_combine_nodes.specs.States.{class_of, is_apart}
 use Rattle.fvn_combine_nodes.specs.declared.state.State.{State}
@@ -23,6 +25,10 @@ pub record GoWith (d : Declarations) (t : NodeTable) (s : State) (values : ℕ �
 abbrev pub IsSumOf : OpId → FlatTerm → Type 0
 IsSumOf f v = (ts : FlatTerms) × (v ≡ fapp f true ts)
 
--- a shared class has an operator that uses it as its tag exactly where its value is a sum of it
+-- the form is a sum of f, or f's identity
+abbrev pub IsSumOrIdentityOf : Declarations → OpId → FlatTerm → Type 0
+IsSumOrIdentityOf d f v = IsSumOf f v ⊎ ((e : OpId) × (identity (axioms d f) ≡ Some e) × (v ≡ fconstant e))
+
+-- a shared class has an operator that uses it as its tag exactly where its value is a sum of it, or its identity
 abbrev pub ObeyTags : Declarations → NodeTable → (ℕ → ℕ) → (ℕ → Option OpId) → (ℕ → FlatTerm) → Type 0
-ObeyTags d t class tag values = (k : ℕ) (f : OpId) → IsShared d t class k → Uses d t class f k → (tag k ≡ Some f) ↔ IsSumOf f (values k)
+ObeyTags d t class tag values = (k : ℕ) (f : OpId) → IsShared d t class k → Uses d t class f k → (tag k ≡ Some f) ↔ IsSumOrIdentityOf d f (values k)

@@ -56,7 +56,7 @@ pub fn tables_have_sums()
     ensures { TablesHaveSums }
 {}
 
-/// All values obey some tags.
+/// Values that go with a leaf obey some tags.
 pub fn tags_exist()
     ensures { TagsExist }
 {}

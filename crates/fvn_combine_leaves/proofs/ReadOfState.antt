@@ -8,6 +8,8 @@ use Rattle.std.proofs.lemmas.Option.{slice_get_within, slice_get-get_or, get_or_
 use Rattle.fvn_base.proofs.Membership.{contains_map, map_contains}
 use Rattle.fvn_terms.specs.declared.plain.OpId.{OpId}
 use Rattle.fvn_terms.specs.declared.declarations.Declarations.{Declarations}
+use Rattle.fvn_terms.specs.Signature.{axioms}
+use Rattle.fvn_terms.specs.Equality.{identity}
 use Rattle.fvn_combine_systems.specs.CombineNodesTable.{NodeTable, IsWellMade}
 use Rattle.fvn_combine_systems.specs.CombineNodesStates.{IsClosed, class_of}
 use Rattle.fvn_combine_systems.specs.CombineNodesDeclared.state.State.{State}
@@ -15,9 +17,9 @@ use Rattle.fvn_combine_systems.proofs.CombineNodesAdmitting.{named_within}
 use Rattle.fvn_combine_systems.proofs.CombineNodesLists.{all_from}
 use Rattle.fvn_combine_systems.specs.NodeSystems.{IsNodeColumn}
 use Rattle.fvn_combine_systems.proofs.Members.{column_of_node}
-use Rattle.fvn_combine_leaves.specs.Leaves.{IsSumOperator, IsSolid, Uses, IsShared}
+use Rattle.fvn_combine_leaves.specs.Leaves.{IsSumOperator, IsSolid, Uses, IsShared, HasTwin}
 use Rattle.fvn_combine_leaves.specs.Readings.{AreSums, IsReading}
-use Rattle.fvn_combine_leaves.specs.Users.{IsWholeSums, IsWhole, IsMarked, IsUserAt, HasTwoUsers, head_of, IsSharedIn}
+use Rattle.fvn_combine_leaves.specs.Users.{IsWholeSums, IsWhole, IsMarked, IsUserAt, HasTwoUsers, HasTwinIn, head_of, IsSharedIn}
 use Rattle.fvn_combine_leaves.specs.declared.reading.Sums.{Sums}
 use Rattle.fvn_combine_leaves.specs.declared.reading.Reading.{Reading}
 
@@ -76,6 +78,23 @@ module _ (d : Declarations) (t : NodeTable) (made : IsWellMade t) (s : State) (c
     entry_of f k u =
         let m = map_contains (λ e. e.operator) r.sums f ((reading.operators.exact f).1 (record { associative = u.associative; sum = u.row; listed = u.listed })) in
         record { entry = m.0; listed = m.1.0; operator = m.1.1 }
+
+    -- another operator with the same identity uses a class exactly where the reading says so
+    pub twin_from : (f : OpId) (k : ℕ) → HasTwinIn d r.sums f k → HasTwin d t (class_of s) f k
+    twin_from f k h = record { twin = h.entry.operator; other = h.twin.other; same = h.twin.same; uses = marked_from h.entry h.listed k h.twin.uses }
+
+    pub twin_in : (f : OpId) (k : ℕ) → HasTwin d t (class_of s) f k → HasTwinIn d r.sums f k
+    twin_in f k h =
+        let a = entry_of h.twin k h.uses in
+        record {
+          entry = a.entry;
+          listed = a.listed;
+          twin = record {
+            other = λ one. h.other (sym a.operator ∙ one);
+            same = ap (λ o. identity (axioms d o)) a.operator ∙ h.same;
+            uses = marked_to a.entry a.listed k (subst (λ o. Uses d t (class_of s) o k) (sym a.operator) h.uses);
+          };
+        }
 
     user_at : (e : Sums) (c : Contains r.sums e) (k : ℕ) → Uses d t (class_of s) e.operator k → IsUserAt r.sums c.0 k
     user_at e c k u = record { entry = e; is = slice_get-get_or r.sums c.0 e c.1 ∙ ap Some c.2; uses = marked_to e c k u }

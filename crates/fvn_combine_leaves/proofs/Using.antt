@@ -1,6 +1,6 @@
 -- The operators of a list that use a class.
 use Rattle.std.proofs.Common.{◌≡◌, ℕ, ◌+◌, ◌<◌, ◌≤◌, true, List, length, get_or, refl, sym, ◌∙◌, subst, inl, inr, arith, Option, Some, None}
-use Rattle.std.specs.Prelude.{is_some}
+use Rattle.std.specs.Prelude.{is_some, slice_get}
 use Rattle.std.proofs.lemmas.Bool.{cases_lt}
 use Rattle.std.proofs.lemmas.Option.{slice_get_within, slice_get-get_or}
 use Rattle.fvn_combine_leaves.specs.declared.reading.Sums.{Sums}
@@ -37,3 +37,15 @@ two_users sums k i first (Some j) later = (
   λ e. record { first = i; second = j; before = let b = later.0 in omega (arith, b); uses_first = first.2; uses_second = later.2 },
   λ two. refl,
 )
+
+-- one more of a list that is not so
+pub none_more : (P : Sums → Type 0) (sums : List Sums) (i : ℕ) (item : Sums) → i < length sums → item ≡ get_or sums i item → (P item → ⊥)
+    → ((j : ℕ) (e : Sums) → j < i → slice_get sums j ≡ Some e → P e → ⊥) → (j : ℕ) (e : Sums) → j < i + 1 → slice_get sums j ≡ Some e → P e → ⊥
+none_more P sums i item l at none h j e b is p = elim (cases_lt j i) [
+  | inl below ↦ h j e below is p
+  | inr above ↦
+      let same : j ≡ i = omega (arith, b, above) in
+      let there : Some e ≡ Some (get_or sums i item) = sym (subst (λ n. slice_get sums n ≡ Some e) same is) ∙ slice_get-get_or sums i item l in
+      let one : e ≡ get_or sums i item = cc in
+      none (subst P (one ∙ sym at) p)
+]

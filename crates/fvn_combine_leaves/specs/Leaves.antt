@@ -3,7 +3,7 @@ use Rattle.std.specs.Prelude.{◌≡◌, ◌≢◌, ◌⊎◌, ℕ, ◌<◌, pos
 use Rattle.fvn_terms.specs.declared.plain.OpId.{OpId}
 use Rattle.fvn_terms.specs.declared.declarations.Declarations.{Declarations}
 use Rattle.fvn_terms.specs.Signature.{axioms}
-use Rattle.fvn_terms.specs.Equality.{IsAssociative}
+use Rattle.fvn_terms.specs.Equality.{IsAssociative, identity}
 use Rattle.fvn_lindio.specs.declared.system.System.{System}
 use Rattle.fvn_lindio.specs.Systems.{IsMinimal, rows_of}
 use Rattle.fvn_combine_systems.specs.FlatPartitions.{HasNoIdentity}
@@ -47,6 +47,13 @@ module _ (d : Declarations) (t : NodeTable) where
       pub uses_first : Uses first k
       pub uses_second : Uses second k
 
+    -- another operator with the same identity, or none, uses class k
+    pub record HasTwin (f : OpId) (k : ℕ) : Type 0 where
+      pub twin : OpId
+      pub other : twin ≢ f
+      pub same : identity (axioms d twin) ≡ identity (axioms d f)
+      pub uses : Uses twin k
+
     -- class k may have to be a single summand in the sums of f
     pub record MayBeConstant (f : OpId) (k : ℕ) : Type 0 where
       pub used : Uses f k
@@ -77,12 +84,12 @@ module _ (d : Declarations) (t : NodeTable) where
       pub left : 0 < component columns solution k
       pub right : 0 < component columns solution l
 
-  -- Commutative nodes meet, and it is known which shared classes have identities.
+  -- Commutative nodes meet, and it is known of an identity that two operators have which classes that both use have it.
   pub record IsNearLeaf (s : State) : Type 0 where
     pub closed : IsClosed d t s
     pub partition : IsNodePartition d t (class_of s)
-    -- whether a shared class has the identity of an operator that uses it
-    pub identities : (f : OpId) (k : ℕ) → IsShared (class_of s) k → Uses (class_of s) f k → (p : OpId × ℕ) → Contains t.units p → p.0 ≡ f → IsOpen s k p.1 → ⊥
+    -- whether a shared class has the identity of an operator that uses it, where another one with the same identity uses it too
+    pub identities : (f : OpId) (k : ℕ) → IsShared (class_of s) k → Uses (class_of s) f k → HasTwin (class_of s) f k → (p : OpId × ℕ) → Contains t.units p → p.0 ≡ f → IsOpen s k p.1 → ⊥
 
   -- the classes have two heads, or whether they are one is not open
   abbrev pub AreTold : State → ℕ → ℕ → Type 0
@@ -97,8 +104,8 @@ module _ (d : Declarations) (t : NodeTable) where
   pub record IsLeaf (s : State) : Type 0 where
     pub closed : IsClosed d t s
     pub partition : IsNodePartition d t (class_of s)
-    -- whether a shared class has the identity of an operator that uses it
-    pub identities : (f : OpId) (k : ℕ) → IsShared (class_of s) k → Uses (class_of s) f k → (p : OpId × ℕ) → Contains t.units p → p.0 ≡ f → IsOpen s k p.1 → ⊥
+    -- whether a shared class has the identity of an operator that uses it, where another one with the same identity uses it too
+    pub identities : (f : OpId) (k : ℕ) → IsShared (class_of s) k → Uses (class_of s) f k → HasTwin (class_of s) f k → (p : OpId × ℕ) → Contains t.units p → p.0 ≡ f → IsOpen s k p.1 → ⊥
     -- whether two classes are one, where both may be constants of an operator and a minimal solution that may stand for a summand has both
     pub constants : (f : OpId) (k l : ℕ) → MayBeConstant (class_of s) f k → MayBeConstant (class_of s) f l → (both : AreTouched (class_of s) f k l) → IsLive s f both.columns both.solution → AreTold s k l
 

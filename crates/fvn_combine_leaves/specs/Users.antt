@@ -1,6 +1,9 @@
 -- Which operators of a reading use a class, and which classes may stand as constants.
-use Rattle.std.specs.Prelude.{◌≡◌, ◌≢◌, ℕ, ◌<◌, ◌≤◌, true, false, List, length, slice_get, slice_index, slice_index_or, Option, Some, None, All}
+use Rattle.std.specs.Prelude.{◌≡◌, ◌≢◌, ℕ, ◌<◌, ◌≤◌, true, false, List, length, slice_get, slice_index, slice_index_or, Option, Some, None, All, Contains}
 use Rattle.fvn_terms.specs.declared.plain.OpId.{OpId}
+use Rattle.fvn_terms.specs.declared.declarations.Declarations.{Declarations}
+use Rattle.fvn_terms.specs.Signature.{axioms}
+use Rattle.fvn_terms.specs.Equality.{identity}
 use Rattle.fvn_combine_leaves.specs.declared.reading.Sums.{Sums}
 use Rattle.fvn_combine_leaves.specs.declared.reading.Reading.{Reading}
 
@@ -36,6 +39,18 @@ pub record HasTwoUsers (sums : List Sums) (k : ℕ) : Type 0 where
   pub before : first < second
   pub uses_first : IsUserAt sums first k
   pub uses_second : IsUserAt sums second k
+
+-- the operator is another one than f, has the same identity, or none as f, and uses class k
+pub record IsTwin (d : Declarations) (f : OpId) (k : ℕ) (s : Sums) : Type 0 where
+  pub other : s.operator ≢ f
+  pub same : identity (axioms d s.operator) ≡ identity (axioms d f)
+  pub uses : IsMarked s k
+
+-- an operator of the list is so
+pub record HasTwinIn (d : Declarations) (sums : List Sums) (f : OpId) (k : ℕ) : Type 0 where
+  pub entry : Sums
+  pub listed : Contains sums entry
+  pub twin : IsTwin d f k entry
 
 -- the head that is noted of class k
 abbrev pub head_of : Reading → ℕ → Option OpId

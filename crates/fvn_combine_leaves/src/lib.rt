@@ -5,4 +5,4 @@ mod reading;
 mod users;
 
 pub use reading::{Reading, Sums};
-pub use users::{has_two_users, is_shared, is_user};
+pub use users::{has_twin, has_two_users, is_shared, is_user};

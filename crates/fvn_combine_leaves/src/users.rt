@@ -1,8 +1,12 @@
 //! What a reading tells of classes.
 ghost use Rattle.std.specs.Prelude.{◌≡◌, ◌↔◌, ◌<◌, length, All, IsTrue};
-ghost use Rattle.fvn_combine_leaves.specs.Users.{IsWholeSums, IsWhole, IsMarked, IsFirstUser, HasTwoUsers, IsSharedIn};
+ghost use Rattle.fvn_terms.specs.Signature.{axioms};
+ghost use Rattle.fvn_terms.specs.Equality.{identity};
+ghost use Rattle.fvn_combine_leaves.specs.Users.{IsWholeSums, IsWhole, IsMarked, IsFirstUser, HasTwoUsers, IsTwin, HasTwinIn, IsSharedIn};
 
 use crate::reading::{Reading, Sums};
+use fvn_signature::Signature;
+use fvn_terms::OpId;
 
 /// Whether the operator uses class k.
 pub fn is_user(sums: &Sums, k: usize) -> bool
@@ -45,6 +49,70 @@ pub fn has_two_users(sums: &[Sums], n: usize, k: usize) -> bool
         None => false,
         Some(i) => first_user(sums, n, i + 1, k).is_some(),
     }
+}
+
+// Whether the operators are one.
+fn is_one(f: OpId, g: OpId) -> bool
+    ensures { IsTrue result ↔ (f ≡ g) }
+{
+    f == g
+}
+
+// Whether both are the same operator, or none.
+fn are_same(e: Option<OpId>, o: Option<OpId>) -> bool
+    ensures { IsTrue result ↔ (e ≡ o) }
+{
+    match e {
+        None => o.is_none(),
+        Some(f) => match o {
+            None => false,
+            Some(g) => f == g,
+        },
+    }
+}
+
+// The identity of an operator, or none.
+fn identity_of(sig: &Signature, f: OpId) -> Option<OpId>
+    ensures { result ≡ identity (axioms sig.now f) }
+{
+    sig.axioms(f).identity()
+}
+
+// Whether the operators have the same identity, or both have none.
+fn have_same_identity(sig: &Signature, f: OpId, g: OpId) -> bool
+    ensures { IsTrue result ↔ (identity (axioms sig.now f) ≡ identity (axioms sig.now g)) }
+{
+    let e = identity_of(sig, f);
+    let o = identity_of(sig, g);
+    are_same(e, o)
+}
+
+// Whether the operator is another one than f, has the same identity, or none as f, and uses class k.
+fn is_twin(sig: &Signature, sums: &Sums, f: OpId, k: usize) -> bool
+    requires { length sums.now.used ≡ length sums.now.columns }
+    ensures { IsTrue result ↔ IsTwin sig.now f k sums.now }
+{
+    if is_one(sums.operator, f) {
+        return false;
+    }
+    if !have_same_identity(sig, sums.operator, f) {
+        return false;
+    }
+    is_user(sums, k)
+}
+
+/// Whether another sum operator with the identity of f, or none where f has none, uses class k.
+pub fn has_twin(sig: &Signature, sums: &[Sums], n: usize, f: OpId, k: usize) -> bool
+    requires whole { All (IsWholeSums n) sums.now }
+    ensures { IsTrue result ↔ HasTwinIn sig.now sums.now f k }
+{
+    let _nodes = n;
+    for i in 0..sums.len() {
+        if is_twin(sig, &sums[i], f, k) {
+            return true;
+        }
+    }
+    false
 }
 
 /// Whether class k is shared.

@@ -20,12 +20,12 @@ use Rattle.fvn_combine_systems.proofs.Weighing.{component_at}
 use Rattle.fvn_combine_leaves.specs.Leaves.{IsSolid, Uses, IsShared, MayBeConstant, IsSingle, HaveTwoHeads, AreTouched, AreTold, IsLive, IsNearLeaf, IsLeaf, IsFirstQuestion, IsQuestion, IsFullQuestion}
 use Rattle.fvn_combine_leaves.specs.Bases.{AreBases}
 use Rattle.fvn_combine_leaves.specs.Readings.{AreSums, IsReading}
-use Rattle.fvn_combine_questions.specs.inner.Past.{IsOpenPairOr, IsPastIdentity, ArePastIdentities, ArePastClasses, ArePastPairs}
-use Rattle.fvn_combine_leaves.specs.Users.{IsWhole, IsMarked, head_of, IsSharedIn, CanStand, CanBeConstant, HaveHeads}
+use Rattle.fvn_combine_questions.specs.inner.Past.{IsOpenPairOr, IsPastUser, ArePastIdentities, ArePastClasses, ArePastPairs}
+use Rattle.fvn_combine_leaves.specs.Users.{IsWhole, HasTwinIn, head_of, IsSharedIn, CanStand, CanBeConstant, HaveHeads}
 use Rattle.fvn_combine_questions.specs.inner.Touched.{AreAllWide, IsSingleIn, AreToldIn, IsDead, IsPastSolution, AreAllPast}
 use Rattle.fvn_combine_leaves.specs.declared.reading.Sums.{Sums}
 use Rattle.fvn_combine_leaves.specs.declared.reading.Reading.{Reading}
-use Rattle.fvn_combine_leaves.proofs.ReadOfState.{column_within, reading_whole as whole_of_nodes, marked_to, marked_from, entry_of, shared_in}
+use Rattle.fvn_combine_leaves.proofs.ReadOfState.{column_within, reading_whole as whole_of_nodes, marked_to, marked_from, entry_of, twin_in, shared_in}
 use Rattle.fvn_combine_questions.proofs.Carrying.{carry, carried, minimal_carried}
 
 -- what stands at a place is in the list
@@ -81,23 +81,24 @@ module _ (d : Declarations) (t : NodeTable) (made : IsWellMade t) (s : State) (c
           ]
 
     -- nearly a leaf
-    near_is : IsNodePartition d t (class_of s) → ((k : ℕ) → k < length s.names → IsSharedIn r k → ArePastIdentities t s r.sums k) → IsNearLeaf d t s
+    near_is : IsNodePartition d t (class_of s) → ((k : ℕ) → k < length s.names → IsSharedIn r k → ArePastIdentities d t s r.sums k) → IsNearLeaf d t s
     near_is partition past = record {
       closed = closed;
       partition = partition;
-      identities = λ f k shared uses p c same.
+      identities = λ f k shared uses twin p c same.
           let a = entry_of d t made s closed r reading f k uses in
           let within = column_within d t made s closed f k uses.column in
           let below : k < length s.names = let w = closed.whole in omega (arith, within, w) in
           let marked = marked_to d t made s closed r reading a.entry a.listed k (subst (λ o. Uses d t (class_of s) o k) (sym a.operator) uses) in
-          let at = All-contains (λ e. IsMarked e k → IsPastIdentity t s e.operator k) r.sums a.entry (past k below (shared_in d t made s closed r reading k within shared)) a.listed marked in
+          let own_twin = subst (λ o. HasTwinIn d r.sums o k) (sym a.operator) (twin_in d t made s closed r reading f k twin) in
+          let at = All-contains (IsPastUser d t s r.sums k) r.sums a.entry (past k below (shared_in d t made s closed r reading k within shared)) a.listed marked own_twin in
           All-contains (λ p. p.0 ≡ a.entry.operator → IsOpen s k p.1 → ⊥) t.units p at c (same ∙ sym a.operator);
     }
 
     -- the answer where commutative nodes are not open
-    pub first_asked : IsNodePartition d t (class_of s) → (o : Option (ℕ × ℕ)) → IsOpenPairOr s ((k : ℕ) → k < length s.names → IsSharedIn r k → ArePastIdentities t s r.sums k) o → IsFirstQuestion d t s o
+    pub first_asked : IsNodePartition d t (class_of s) → (o : Option (ℕ × ℕ)) → IsOpenPairOr s ((k : ℕ) → k < length s.names → IsSharedIn r k → ArePastIdentities d t s r.sums k) o → IsFirstQuestion d t s o
     first_asked partition None past = near_is partition past
-    first_asked partition (Some p) h = pair_question ((k : ℕ) → k < length s.names → IsSharedIn r k → ArePastIdentities t s r.sums k) p h
+    first_asked partition (Some p) h = pair_question ((k : ℕ) → k < length s.names → IsSharedIn r k → ArePastIdentities d t s r.sums k) p h
 
     -- a leaf, where classes that may be constants and that a solution has both of are told apart
     leaf_is : IsNearLeaf d t s → ((f : OpId) (k l : ℕ) → MayBeConstant d t (class_of s) f k → MayBeConstant d t (class_of s) f l → (both : AreTouched d t (class_of s) f k l) → IsLive d t s f both.columns both.solution → AreTold d t s k l) → IsLeaf d t s

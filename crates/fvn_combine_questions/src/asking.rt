@@ -32,7 +32,7 @@ pub fn first_question(
     table.recall_well_made();
     match undecided(sig, table, state) {
         Some(pair) => Some(pair),
-        None => identity_question(table, state, reading),
+        None => identity_question(sig, table, state, reading),
     }
 }
 

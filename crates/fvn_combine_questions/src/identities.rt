@@ -4,8 +4,9 @@ ghost use Rattle.fvn_combine_nodes.specs.States.{IsNaming};
 ghost use Rattle.fvn_combine_questions.specs.inner.Past.{IsOpenPairOr, IsPastIdentity, ArePastIdentities};
 ghost use Rattle.fvn_combine_leaves.specs.Users.{IsWholeSums, IsWhole, IsSharedIn};
 
-use fvn_combine_leaves::{Reading, Sums, is_shared, is_user};
+use fvn_combine_leaves::{Reading, Sums, has_twin, is_shared, is_user};
 use fvn_combine_nodes::{State, Table};
+use fvn_signature::Signature;
 use fvn_terms::OpId;
 
 // A question whether class k has f's identity.
@@ -27,16 +28,26 @@ fn open_identity(table: &Table, state: &State, f: OpId, k: usize) -> Option<(usi
     None
 }
 
-// A question whether class k has the identity of an operator that uses it.
-fn open_of_class(table: &Table, state: &State, sums: &[Sums], k: usize) -> Option<(usize, usize)>
+// A question whether class k has the identity of an operator that uses it, where another one has it too.
+fn open_of_class(
+    sig: &Signature,
+    table: &Table,
+    state: &State,
+    sums: &[Sums],
+    k: usize,
+) -> Option<(usize, usize)>
     requires naming { IsNaming state.now }
     requires whole { length state.now.names ≡ length table.now.nodes }
     requires sums { All (IsWholeSums (length state.now.names)) sums.now }
     requires within { k < length state.now.names }
-    ensures { IsOpenPairOr state.now (ArePastIdentities table.now state.now sums.now k) result }
+    ensures { IsOpenPairOr state.now (ArePastIdentities sig.now table.now state.now sums.now k) result }
 {
+    let n = state.names.len();
     for s in sums {
         if !is_user(s, k) {
+            continue;
+        }
+        if !has_twin(sig, sums, n, s.operator, k) {
             continue;
         }
         match open_identity(table, state, s.operator, k) {
@@ -49,6 +60,7 @@ fn open_of_class(table: &Table, state: &State, sums: &[Sums], k: usize) -> Optio
 
 // A question whether a shared class has the identity of an operator that uses it.
 pub(crate) fn identity_question(
+    sig: &Signature,
     table: &Table,
     state: &State,
     reading: &Reading,
@@ -58,14 +70,14 @@ pub(crate) fn identity_question(
     requires reading { IsWhole (length state.now.names) reading.now }
     ensures { IsOpenPairOr state.now ((k : ℕ) → k < length state.now.names
         → IsSharedIn reading.now k
-        → ArePastIdentities table.now state.now reading.now.sums k) result }
+        → ArePastIdentities sig.now table.now state.now reading.now.sums k) result }
 {
     let n = state.names.len();
     for k in 0..n {
         if !is_shared(reading, n, k) {
             continue;
         }
-        match open_of_class(table, state, reading.sums.as_slice(), k) {
+        match open_of_class(sig, table, state, reading.sums.as_slice(), k) {
             None => {}
             Some(pair) => return Some(pair),
         }

@@ -7,7 +7,7 @@ use Rattle.fvn_flat.specs.Partitions.{HasNoIdentity}
 use Rattle.fvn_acunify.specs.ValidChoice.{column_sum}
 use Rattle.fvn_combine_leaves.specs.declared.reading.Sums.{Sums}
 use Rattle.fvn_combine_leaves.specs.declared.reading.Reading.{Reading}
-use Rattle.fvn_combine_leaves.specs.Users.{IsMarked, HasTwoUsers, IsSharedIn, head_of}
+use Rattle.fvn_combine_leaves.specs.Users.{IsMarked, HasTwoUsers, HasTwinIn, IsSharedIn, head_of}
 use Rattle.fvn_combine_admissible.specs.Listed.{tag_in}
 
 -- why class k is bound to a sum of the operator, with this head
@@ -32,9 +32,9 @@ pub record AreConstantsBelow (r : Reading) (tags : List (Option OpId)) (s : Sums
 abbrev pub AreConstantsOf : Reading → List (Option OpId) → Sums → List ℕ → Type 0
 AreConstantsOf r tags s list = AreConstantsBelow r tags s (length s.columns) list
 
--- the sum to which class k is bound has a member
+-- the sum of the operator to which class k is bound has a member: the operator has no identity, or another one that uses the class has the same
 abbrev pub IsRequiredIn : Declarations → Reading → List (Option OpId) → Sums → ℕ → Type 0
-IsRequiredIn d r tags s k = IsBoundIn r tags s k × (HasNoIdentity (axioms d s.operator) ⊎ IsSharedIn r k)
+IsRequiredIn d r tags s k = IsBoundIn r tags s k × (HasNoIdentity (axioms d s.operator) ⊎ HasTwinIn d r.sums s.operator k)
 
 -- the marks of the columns before this one
 pub record AreMarksBelow (d : Declarations) (r : Reading) (tags : List (Option OpId)) (s : Sums) (i : ℕ) (marks : List Bool) : Type 0 where

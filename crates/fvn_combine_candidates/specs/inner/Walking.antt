@@ -48,7 +48,7 @@ module _ (d : Declarations) (t : NodeTable) (class : ℕ → ℕ) (tag : ℕ →
     pub each : (i : ℕ) (e : Sums) (w : Wheel) → i < n → slice_get sums i ≡ Some e → slice_get wheels i ≡ Some w → IsBoundedWheel e (slice_index_or bases i []) w
 
 module _ (d : Declarations) (t : NodeTable) (class : ℕ → ℕ) (sorted : Bool) where
-  -- the operator stands before this place, uses class k, and may head its value
+  -- the operator stands before this place and uses class k, whose value may be a sum by it or its identity
   pub record IsUserBelow (sums : List Sums) (k i : ℕ) (f : OpId) : Type 0 where
     pub place : ℕ
     pub before : place < i

@@ -1,12 +1,13 @@
 -- Questions that are past.
 use Rattle.std.specs.Prelude.{◌≡◌, ◌⊎◌, ℕ, ◌<◌, List, length, Option, Some, None, All}
 use Rattle.fvn_terms.specs.declared.plain.OpId.{OpId}
+use Rattle.fvn_terms.specs.declared.declarations.Declarations.{Declarations}
 use Rattle.fvn_combine_nodes.specs.Table.{NodeTable}
 use Rattle.fvn_combine_nodes.specs.States.{IsOpen}
 use Rattle.fvn_combine_nodes.specs.declared.state.State.{State}
 use Rattle.fvn_combine_leaves.specs.declared.reading.Sums.{Sums}
 use Rattle.fvn_combine_leaves.specs.declared.reading.Reading.{Reading}
-use Rattle.fvn_combine_leaves.specs.Users.{IsMarked, CanBeConstant, HaveHeads}
+use Rattle.fvn_combine_leaves.specs.Users.{IsMarked, HasTwinIn, CanBeConstant, HaveHeads}
 
 -- an open pair of nodes; where there is none, the fact holds
 abbrev pub IsOpenPairOr : State → Type 0 → Option (ℕ × ℕ) → Type 0
@@ -17,9 +18,14 @@ IsOpenPairOr s P (Some p) = (p.0 < length s.names) × (p.1 < length s.names) × 
 abbrev pub IsPastIdentity : NodeTable → State → OpId → ℕ → Type 0
 IsPastIdentity t s f k = All (λ p. p.0 ≡ f → IsOpen s k p.1 → ⊥) t.units
 
--- nor the identity of one of these operators that uses it
-abbrev pub ArePastIdentities : NodeTable → State → List Sums → ℕ → Type 0
-ArePastIdentities t s sums k = All (λ e. IsMarked e k → IsPastIdentity t s e.operator k) sums
+module _ (d : Declarations) (t : NodeTable) (s : State) (sums : List Sums) (k : ℕ) where
+  -- where the operator uses class k, and another one of the list with its identity does, it is not open whether the class has that
+  abbrev pub IsPastUser : Sums → Type 0
+  IsPastUser e = IsMarked e k → HasTwinIn d sums e.operator k → IsPastIdentity t s e.operator k
+
+  -- so it is with each operator of the list
+  abbrev pub ArePastIdentities : Type 0
+  ArePastIdentities = All IsPastUser sums
 
 -- it is not open whether class k is one of these classes, where these may be constants of the operator and have no other head
 abbrev pub ArePastClasses : State → Reading → Sums → ℕ → List ℕ → Type 0

@@ -1,4 +1,4 @@
--- The operator uses the class, which is not narrow under it.
+-- The operator uses the class, which is not narrow under it, or may be its identity.
 use Rattle.std.proofs.Common.{refl, sym, ◌∙◌}
 use Rattle.std.proofs.lemmas.Bool.{false≢true}
 use Rattle.fvn_combine_nodes.specs.States.{class_of}
@@ -16,5 +16,11 @@ pub is_narrow-requires-clause-associative : goal.is_narrow-requires-clause-assoc
 is_narrow-requires-clause-associative c =
     (operator_at c.args.sig.now c.args.table.now (class_of c.args.state.now) c.args.reading.now c.requires.reading c.args.sums.now c.requires.listed).associative
 
+pub returns-then-not-is_narrow : goal.returns-then-not-is_narrow
+returns-then-not-is_narrow c =
+    (λ _. (c.uses.ensures.0 c.if-not-uses.false, λ _ narrow _. false≢true (sym c.if-not-is_narrow.true ∙ c.is_narrow.ensures.1 narrow)), λ _. refl)
+
 pub returns : goal.returns
-returns c = may_told c.args.sorted c.is_narrow.result (c.uses.ensures.0 c.if-not-uses.false) c.if-not-sorted.false c.is_narrow.ensures
+returns c =
+    may_told c.args.sorted c.is_never_identity.result (c.uses.ensures.0 c.if-not-uses.false) c.if-not-sorted.false (c.is_narrow.ensures.0 c.if-not-is_narrow.false)
+    c.is_never_identity.ensures

@@ -5,4 +5,4 @@ use Rattle.fvn_combine_leaves.specs.Users.{IsSharedIn}
 use Rattle.fvn_combine_questions.proofs.identities.identity_question.Given as goal
 
 abbrev pub invariant-loop-k : goal.invariant-loop-k
-invariant-loop-k l = (k : ℕ) → k < l.k → IsSharedIn l.reading k → ArePastIdentities l.table l.state l.reading.sums k
+invariant-loop-k l = (k : ℕ) → k < l.k → IsSharedIn l.reading k → ArePastIdentities l.sig l.table l.state l.reading.sums k
