@@ -1,0 +1,176 @@
+//! Classes whose values have one of two heads for sure: a class that is added has one that is noted, and is the whole sum, or
+//! a part of it.
+ghost use Rattle.std.specs.Prelude.{◌≡◌, ◌<◌, length, slice_index_or, Some, None, IfSome, IsTrue};
+ghost use Rattle.fvn_terms.specs.Signature.{axioms};
+ghost use Rattle.fvn_terms.specs.Equality.{identity};
+ghost use Rattle.fvn_combine_bounds.specs.CombineChoicesTables.{HasSums};
+ghost use Rattle.fvn_combine_nodes.specs.States.{IsClosed, class_of};
+ghost use Rattle.fvn_combine_inferring.specs.Inferred.{TellHeads, HaveTwoValues};
+ghost use Rattle.fvn_combine_inferring.specs.Rows.{IsSummand};
+ghost use Rattle.fvn_combine_inferring.specs.inner.Bounds.{IsNotedApart, HasEitherHead, HaveNoHeadInCommon};
+
+use crate::bounds::is_other_head;
+use crate::expressions::split_at;
+use crate::heads::Known;
+use fvn_combine_nodes::{Node, State, Table};
+use fvn_signature::Signature;
+use fvn_terms::OpId;
+
+// The operator that is noted of the class of node k, where it is neither f nor f's identity.
+fn head_apart(
+    sig: &Signature,
+    state: &State,
+    heads: &[Option<OpId>],
+    f: OpId,
+    k: usize,
+) -> Option<OpId>
+    requires within { k < length state.now.names }
+    requires heads { class_of state.now k < length heads.now }
+    ensures { IfSome result (IsNotedApart sig.now f heads.now (class_of state.now k)) }
+{
+    match heads[state.class_of(k)] {
+        None => None,
+        Some(g) => {
+            if is_other_head(sig, f, g) {
+                Some(g)
+            } else {
+                None
+            }
+        }
+    }
+}
+
+// The operator that is so noted of one of two classes.
+fn added_head(
+    sig: &Signature,
+    state: &State,
+    heads: &[Option<OpId>],
+    f: OpId,
+    p: (usize, usize),
+) -> Option<OpId> {
+    match head_apart(sig, state, heads, f, p.0) {
+        Some(g) => Some(g),
+        None => head_apart(sig, state, heads, f, p.1),
+    }
+}
+
+// The heads that node i has as a sum by f.
+fn sum_heads(
+    sig: &Signature,
+    table: &Table,
+    state: &State,
+    known: &Known,
+    f: OpId,
+    i: usize,
+) -> Option<(OpId, OpId)> {
+    match split_at(table, state, f, i) {
+        None => None,
+        Some(p) => match added_head(sig, state, known.heads.as_slice(), f, p) {
+            None => None,
+            Some(g) => Some((f, g)),
+        },
+    }
+}
+
+// The heads that node i has.
+fn node_heads(
+    sig: &Signature,
+    table: &Table,
+    state: &State,
+    known: &Known,
+    i: usize,
+) -> Option<(OpId, OpId)> {
+    match table.node(i) {
+        Node::Var(_) => None,
+        Node::App(f, _) => match sig.identity(*f) {
+            None => None,
+            Some(_) => sum_heads(sig, table, state, known, *f, i),
+        },
+    }
+}
+
+// The heads that a member of the class of node k has.
+fn member_heads(
+    sig: &Signature,
+    table: &Table,
+    state: &State,
+    known: &Known,
+    k: usize,
+) -> Option<(OpId, OpId)> {
+    for i in 0..table.nodes().len() {
+        if !state.is_same(i, k) {
+            continue;
+        }
+        match node_heads(sig, table, state, known, i) {
+            None => continue,
+            Some(p) => return Some(p),
+        }
+    }
+    None
+}
+
+// Two operators of which one heads the value of the class of node k; twice the one that is noted of it.
+fn possible_heads(
+    sig: &Signature,
+    table: &Table,
+    state: &State,
+    known: &Known,
+    k: usize,
+) -> Option<(OpId, OpId)> {
+    match known.heads[state.class_of(k)] {
+        None => member_heads(sig, table, state, known, k),
+        Some(f) => Some((f, f)),
+    }
+}
+
+// Whether one of two operators heads the class of node k that are neither f nor its identity: its value is one summand.
+pub(crate) fn is_possibly_headed(
+    sig: &Signature,
+    table: &Table,
+    state: &State,
+    known: &Known,
+    f: OpId,
+    k: usize,
+) -> bool {
+    match possible_heads(sig, table, state, known, k) {
+        None => false,
+        Some(p) => {
+            if !is_other_head(sig, f, p.0) {
+                return false;
+            }
+            is_other_head(sig, f, p.1)
+        }
+    }
+}
+
+// Whether neither of two operators is one of two others.
+fn are_unlike(p: (OpId, OpId), q: (OpId, OpId)) -> bool {
+    if p.0 == q.0 {
+        return false;
+    }
+    if p.0 == q.1 {
+        return false;
+    }
+    if p.1 == q.0 {
+        return false;
+    }
+    p.1 != q.1
+}
+
+// Whether the classes of two nodes have no possible head in common.
+pub(crate) fn are_headed_apart(
+    sig: &Signature,
+    table: &Table,
+    state: &State,
+    known: &Known,
+    i: usize,
+    j: usize,
+) -> bool {
+    match possible_heads(sig, table, state, known, i) {
+        None => false,
+        Some(p) => match possible_heads(sig, table, state, known, j) {
+            None => false,
+            Some(q) => are_unlike(p, q),
+        },
+    }
+}
