@@ -69,7 +69,7 @@ pub(crate) fn split_at(table: &Table, state: &State, f: OpId, i: usize) -> Optio
 }
 
 // The operator that is noted of the class of node i.
-fn head_at(state: &State, heads: &[Option<OpId>], i: usize) -> Option<OpId>
+pub(crate) fn head_at(state: &State, heads: &[Option<OpId>], i: usize) -> Option<OpId>
     requires within { i < length state.now.names }
     requires heads { class_of state.now i < length heads.now }
     ensures { result ≡ slice_index_or heads.now (class_of state.now i) None }

@@ -1,16 +1,16 @@
 //! Classes whose values have one of two heads for sure: a class that is added has one that is noted, and is the whole sum, or
 //! a part of it.
-ghost use Rattle.std.specs.Prelude.{◌≡◌, ◌<◌, length, slice_index_or, Some, None, IfSome, IsTrue};
+ghost use Rattle.std.specs.Prelude.{◌≡◌, ◌<◌, length, IfSome, IsTrue};
 ghost use Rattle.fvn_terms.specs.Signature.{axioms};
-ghost use Rattle.fvn_terms.specs.Equality.{identity};
+ghost use Rattle.fvn_terms.specs.Equality.{IsAssociative};
 ghost use Rattle.fvn_combine_bounds.specs.CombineChoicesTables.{HasSums};
-ghost use Rattle.fvn_combine_nodes.specs.States.{IsClosed, class_of};
+ghost use Rattle.fvn_combine_nodes.specs.States.{IsClosed, IsNaming, class_of};
 ghost use Rattle.fvn_combine_inferring.specs.Inferred.{TellHeads, HaveTwoValues};
 ghost use Rattle.fvn_combine_inferring.specs.Rows.{IsSummand};
-ghost use Rattle.fvn_combine_inferring.specs.inner.Bounds.{IsNotedApart, HasEitherHead, HaveNoHeadInCommon};
+ghost use Rattle.fvn_combine_inferring.specs.inner.Bounds.{IsNotedApart, IsNotedOfEither, HasEitherHead, AreUnlike};
 
 use crate::bounds::is_other_head;
-use crate::expressions::split_at;
+use crate::expressions::{head_at, split_at};
 use crate::heads::Known;
 use fvn_combine_nodes::{Node, State, Table};
 use fvn_signature::Signature;
@@ -31,11 +31,10 @@ fn head_apart(
     match heads[state.class_of(k)] {
         None => None,
         Some(g) => {
-            if is_other_head(sig, f, g) {
-                Some(g)
-            } else {
-                None
+            if !is_other_head(sig, f, g) {
+                return None;
             }
+            Some(g)
         }
     }
 }
@@ -47,7 +46,14 @@ fn added_head(
     heads: &[Option<OpId>],
     f: OpId,
     p: (usize, usize),
-) -> Option<OpId> {
+) -> Option<OpId>
+    requires left { p.0 < length state.now.names }
+    requires right { p.1 < length state.now.names }
+    requires heads { length heads.now ≡ length state.now.names }
+    requires naming { IsNaming state.now }
+    ensures { IfSome result (IsNotedOfEither sig.now f heads.now (class_of state.now p.0)
+        (class_of state.now p.1)) }
+{
     match head_apart(sig, state, heads, f, p.0) {
         Some(g) => Some(g),
         None => head_apart(sig, state, heads, f, p.1),
@@ -62,7 +68,15 @@ fn sum_heads(
     known: &Known,
     f: OpId,
     i: usize,
-) -> Option<(OpId, OpId)> {
+) -> Option<(OpId, OpId)>
+    requires associative { IsAssociative (axioms sig.now f) }
+    requires closed { IsClosed sig.now table.now state.now }
+    requires sums { HasSums sig.now table.now }
+    requires heads { TellHeads sig.now table.now state.now known.now.sorted known.now.heads.items }
+    requires within { i < length table.now.nodes }
+    ensures { IfSome result (HasEitherHead sig.now table.now state.now known.now.sorted i) }
+{
+    table.recall_well_made();
     match split_at(table, state, f, i) {
         None => None,
         Some(p) => match added_head(sig, state, known.heads.as_slice(), f, p) {
@@ -79,7 +93,13 @@ fn node_heads(
     state: &State,
     known: &Known,
     i: usize,
-) -> Option<(OpId, OpId)> {
+) -> Option<(OpId, OpId)>
+    requires closed { IsClosed sig.now table.now state.now }
+    requires sums { HasSums sig.now table.now }
+    requires heads { TellHeads sig.now table.now state.now known.now.sorted known.now.heads.items }
+    requires within { i < length table.now.nodes }
+    ensures { IfSome result (HasEitherHead sig.now table.now state.now known.now.sorted i) }
+{
     match table.node(i) {
         Node::Var(_) => None,
         Node::App(f, _) => match sig.identity(*f) {
@@ -96,7 +116,13 @@ fn member_heads(
     state: &State,
     known: &Known,
     k: usize,
-) -> Option<(OpId, OpId)> {
+) -> Option<(OpId, OpId)>
+    requires closed { IsClosed sig.now table.now state.now }
+    requires sums { HasSums sig.now table.now }
+    requires heads { TellHeads sig.now table.now state.now known.now.sorted known.now.heads.items }
+    requires within { k < length table.now.nodes }
+    ensures { IfSome result (HasEitherHead sig.now table.now state.now known.now.sorted k) }
+{
     for i in 0..table.nodes().len() {
         if !state.is_same(i, k) {
             continue;
@@ -116,8 +142,14 @@ fn possible_heads(
     state: &State,
     known: &Known,
     k: usize,
-) -> Option<(OpId, OpId)> {
-    match known.heads[state.class_of(k)] {
+) -> Option<(OpId, OpId)>
+    requires closed { IsClosed sig.now table.now state.now }
+    requires sums { HasSums sig.now table.now }
+    requires heads { TellHeads sig.now table.now state.now known.now.sorted known.now.heads.items }
+    requires within { k < length table.now.nodes }
+    ensures { IfSome result (HasEitherHead sig.now table.now state.now known.now.sorted k) }
+{
+    match head_at(state, known.heads.as_slice(), k) {
         None => member_heads(sig, table, state, known, k),
         Some(f) => Some((f, f)),
     }
@@ -131,7 +163,13 @@ pub(crate) fn is_possibly_headed(
     known: &Known,
     f: OpId,
     k: usize,
-) -> bool {
+) -> bool
+    requires closed { IsClosed sig.now table.now state.now }
+    requires sums { HasSums sig.now table.now }
+    requires heads { TellHeads sig.now table.now state.now known.now.sorted known.now.heads.items }
+    requires within { k < length table.now.nodes }
+    ensures { IsTrue result → IsSummand sig.now table.now state.now known.now.sorted f k }
+{
     match possible_heads(sig, table, state, known, k) {
         None => false,
         Some(p) => {
@@ -144,7 +182,9 @@ pub(crate) fn is_possibly_headed(
 }
 
 // Whether neither of two operators is one of two others.
-fn are_unlike(p: (OpId, OpId), q: (OpId, OpId)) -> bool {
+fn are_unlike(p: (OpId, OpId), q: (OpId, OpId)) -> bool
+    ensures { IsTrue result → AreUnlike p q }
+{
     if p.0 == q.0 {
         return false;
     }
@@ -165,7 +205,14 @@ pub(crate) fn are_headed_apart(
     known: &Known,
     i: usize,
     j: usize,
-) -> bool {
+) -> bool
+    requires closed { IsClosed sig.now table.now state.now }
+    requires sums { HasSums sig.now table.now }
+    requires heads { TellHeads sig.now table.now state.now known.now.sorted known.now.heads.items }
+    requires left { i < length table.now.nodes }
+    requires right { j < length table.now.nodes }
+    ensures { IsTrue result → HaveTwoValues sig.now table.now state.now known.now.sorted i j }
+{
     match possible_heads(sig, table, state, known, i) {
         None => false,
         Some(p) => match possible_heads(sig, table, state, known, j) {
