@@ -43,7 +43,7 @@ fn pair(ks: &[usize]) -> Option<(usize, usize)>
 }
 
 // The two arguments of a node that f heads.
-fn addends(table: &Table, f: OpId, i: usize) -> Option<(usize, usize)>
+pub(crate) fn addends(table: &Table, f: OpId, i: usize) -> Option<(usize, usize)>
     requires { i < length table.now.nodes }
     ensures is { result ≡ addends f (slice_get table.now.nodes i) }
     ensures within { IfSome result (λ p.

@@ -10,7 +10,7 @@ ghost use Rattle.fvn_combine_inferring.specs.Rows.{IsSummand};
 ghost use Rattle.fvn_combine_inferring.specs.inner.Bounds.{IsNotedApart, IsNotedOfEither, HasEitherHead, AreUnlike};
 
 use crate::bounds::is_other_head;
-use crate::expressions::{head_at, split_at};
+use crate::expressions::{addends, head_at};
 use crate::heads::Known;
 use fvn_combine_nodes::{Node, State, Table};
 use fvn_signature::Signature;
@@ -60,7 +60,7 @@ fn added_head(
     }
 }
 
-// The heads that node i has as a sum by f.
+// The heads that node i has as a sum by f: one of the nodes that it adds has a head, or of those that the last of them adds.
 fn sum_heads(
     sig: &Signature,
     table: &Table,
@@ -77,13 +77,17 @@ fn sum_heads(
     ensures { IfSome result (HasEitherHead sig.now table.now state.now known.now.sorted i) }
 {
     table.recall_well_made();
-    match split_at(table, state, f, i) {
-        None => None,
-        Some(p) => match added_head(sig, state, known.heads.as_slice(), f, p) {
-            None => None,
-            Some(g) => Some((f, g)),
-        },
+    let mut last = i;
+    for _step in 0..table.nodes().len() {
+        match addends(table, f, last) {
+            None => return None,
+            Some(p) => match added_head(sig, state, known.heads.as_slice(), f, p) {
+                Some(g) => return Some((f, g)),
+                None => last = p.1,
+            },
+        }
     }
+    None
 }
 
 // The heads that node i has.

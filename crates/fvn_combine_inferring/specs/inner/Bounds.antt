@@ -40,6 +40,11 @@ module _ (d : Declarations) (t : NodeTable) (s : State) (sorted : Bool) where
   abbrev pub HasEitherHead : ℕ → OpId × OpId → Type 0
   HasEitherHead k p = (values : ℕ → FlatTerm) → GoWithSorts d t s sorted values → (head_of (values (class_of s k)) ≡ Some p.0) ⊎ (head_of (values (class_of s k)) ≡ Some p.1)
 
+  -- whatever values go with the state, where that of the class of node k has a summand, that of the class of node i is the
+  -- same, or has two
+  abbrev pub IsAddedLast : OpId → (i k : ℕ) → Type 0
+  IsAddedLast f i k = (values : ℕ → FlatTerm) → GoWithSorts d t s sorted values → 1 ≤ many d s f values k → (2 ≤ many d s f values i) ⊎ (values (class_of s i) ≡ values (class_of s k))
+
   -- whatever values go with the state, that of the class of node k has two summands
   abbrev pub HasTwoSummands : OpId → ℕ → Type 0
   HasTwoSummands f k = (values : ℕ → FlatTerm) → GoWithSorts d t s sorted values → 2 ≤ many d s f values k
