@@ -127,7 +127,7 @@ fn member_heads(
     requires within { k < length table.now.nodes }
     ensures { IfSome result (HasEitherHead sig.now table.now state.now known.now.sorted k) }
 {
-    for i in 0..table.nodes().len() {
+    for i in state.class_of(k)..table.nodes().len() {
         if !state.is_same(i, k) {
             continue;
         }

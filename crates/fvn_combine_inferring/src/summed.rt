@@ -80,7 +80,7 @@ pub(crate) fn is_summed(
     requires within { k < length table.now.nodes }
     ensures { IsTrue result → HasSummand sig.now table.now state.now known.now.sorted f k }
 {
-    for i in 0..table.nodes().len() {
+    for i in state.class_of(k)..table.nodes().len() {
         if !state.is_same(i, k) {
             continue;
         }
