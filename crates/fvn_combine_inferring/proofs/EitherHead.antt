@@ -1,5 +1,5 @@
 -- Classes whose values have one of two heads.
-use Rattle.std.proofs.Common.{◌≡◌, ◌≢◌, ◌⊎◌, ℕ, ◌<◌, ◌≤◌, true, List, [], ◌∷◌, length, sym, ap, ◌∙◌, refl, subst, slice_get, inl, inr, arith, Option, Some, None}
+use Rattle.std.proofs.Common.{◌≡◌, ◌⊎◌, ℕ, ◌<◌, ◌≤◌, true, List, [], ◌∷◌, length, sym, ap, ◌∙◌, refl, subst, slice_get, inl, inr, arith, Option, Some, None}
 use Rattle.std.specs.Prelude.{Bool, slice_index_or}
 use Rattle.std.proofs.lemmas.Bool.{eqb-true}
 use Rattle.fvn_terms.specs.declared.plain.OpId.{OpId}

@@ -1,5 +1,5 @@
 -- The first class has one, or the second.
-use Rattle.std.proofs.Common.{inl, inr, arith}
+use Rattle.std.proofs.Common.{inl, arith}
 use Rattle.fvn_combine_nodes.proofs.Admitting.{named_within}
 use Rattle.fvn_combine_inferring.proofs.possible.added_head.Goals as goal
 

@@ -1,5 +1,5 @@
 -- What is noted heads the value.
-use Rattle.std.proofs.Common.{List, length, get_or, sym, ap, ◌∙◌, subst, arith, Option, None}
+use Rattle.std.proofs.Common.{List, length, get_or, sym, ap, ◌∙◌, arith, Option, None}
 use Rattle.fvn_terms.specs.declared.plain.OpId.{OpId}
 use Rattle.fvn_combine_nodes.specs.States.{class_of}
 use Rattle.fvn_combine_inferring.proofs.Values.{name_within}
