@@ -107,10 +107,9 @@ module _ (d : Declarations) (t : NodeTable) (made : IsWellMade t) (has : HasSums
 
 module _ (d : Declarations) (t : NodeTable) (s : State) (sorted : Bool) (f : OpId) where
   -- what a class has holds of its members
-  pub member_some : (i k : ℕ) → is_same s i k ≡ true → HasSummand d t s sorted f i → HasSummand d t s sorted f k
+  pub member_some : (i k : ℕ) → class_of s i ≡ class_of s k → HasSummand d t s sorted f i → HasSummand d t s sorted f k
   member_some i k same h values go =
-      let e = eqb-true (class_of s i) (class_of s k) same in
-      let a = ap (λ c. length (parts d f (values c))) e in
+      let a = ap (λ c. length (parts d f (values c))) same in
       let b = h values go in
       omega (arith, a, b)
 

@@ -1,7 +1,6 @@
 -- Classes whose values have one of two heads.
-use Rattle.std.proofs.Common.{◌≡◌, ◌⊎◌, ℕ, ◌<◌, ◌≤◌, true, List, [], ◌∷◌, length, sym, ap, ◌∙◌, refl, subst, slice_get, inl, inr, arith, Option, Some, None}
+use Rattle.std.proofs.Common.{◌≡◌, ◌⊎◌, ℕ, ◌<◌, ◌≤◌, List, [], ◌∷◌, length, sym, ap, ◌∙◌, refl, subst, slice_get, inl, inr, arith, Option, Some, None}
 use Rattle.std.specs.Prelude.{Bool, slice_index_or}
-use Rattle.std.proofs.lemmas.Bool.{eqb-true}
 use Rattle.fvn_terms.specs.declared.plain.OpId.{OpId}
 use Rattle.fvn_terms.specs.declared.declarations.Declarations.{Declarations}
 use Rattle.fvn_terms.specs.Signature.{axioms}
@@ -11,7 +10,7 @@ use Rattle.fvn_forms.specs.InOrder.{count}
 use Rattle.fvn_forms.specs.Canon.{parts}
 use Rattle.fvn_flat.specs.Forms.{head_of}
 use Rattle.fvn_combine_nodes.specs.Table.{NodeTable, IsWellMade}
-use Rattle.fvn_combine_nodes.specs.States.{IsClosed, class_of, is_same}
+use Rattle.fvn_combine_nodes.specs.States.{IsClosed, class_of}
 use Rattle.fvn_combine_nodes.specs.declared.state.State.{State}
 use Rattle.fvn_combine_systems.specs.NodeSystems.{addends}
 use Rattle.fvn_combine_systems.proofs.Members.{addends_over}
@@ -114,9 +113,9 @@ module _ (d : Declarations) (t : NodeTable) (s : State) (sorted : Bool) where
           ]
 
   -- what a member has the class has
-  pub member_either : (i k : ℕ) → is_same s i k ≡ true → (p : OpId × OpId) → HasEitherHead d t s sorted i p → HasEitherHead d t s sorted k p
+  pub member_either : (i k : ℕ) → class_of s i ≡ class_of s k → (p : OpId × OpId) → HasEitherHead d t s sorted i p → HasEitherHead d t s sorted k p
   member_either i k same p h values go =
-      subst (λ c. (head_of (values c) ≡ Some p.0) ⊎ (head_of (values c) ≡ Some p.1)) (eqb-true (class_of s i) (class_of s k) same) (h values go)
+      subst (λ c. (head_of (values c) ≡ Some p.0) ⊎ (head_of (values c) ≡ Some p.1)) same (h values go)
 
   -- a value that one of two other operators heads is one summand
   pub either_summand : (f : OpId) (k : ℕ) (p : OpId × OpId) → HasEitherHead d t s sorted k p → IsOtherHead d f p.0 → IsOtherHead d f p.1 → IsSummand d t s sorted f k

@@ -127,8 +127,9 @@ fn member_heads(
     requires within { k < length table.now.nodes }
     ensures { IfSome result (HasEitherHead sig.now table.now state.now known.now.sorted k) }
 {
-    for i in state.class_of(k)..table.nodes().len() {
-        if !state.is_same(i, k) {
+    let class = state.class_of(k);
+    for i in class..table.nodes().len() {
+        if state.class_of(i) != class {
             continue;
         }
         match node_heads(sig, table, state, known, i) {

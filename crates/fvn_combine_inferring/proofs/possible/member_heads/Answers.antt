@@ -3,16 +3,15 @@ use Rattle.std.proofs.Common.{◌<◌, length, sym, ◌∙◌, subst, arith}
 use Rattle.fvn_combine_inferring.proofs.EitherHead.{member_either}
 use Rattle.fvn_combine_inferring.proofs.possible.member_heads.Goals as goal
 
-pub is_same-requires : goal.is_same-requires
-is_same-requires c =
+pub class_of-requires : goal.class_of-requires
+class_of-requires c =
     let w = c.requires.closed.whole in
-    let k = c.requires.within in
     let l : c.loop-i.i < length c.args.table.now.nodes = subst (λ ns. c.loop-i.i < length ns) c.nodes-i-end.ensures c.loop-i-test.true in
-    record { left = omega (arith, w, l); right = omega (arith, w, k) }
+    omega (arith, w, l)
 
 pub node_heads-requires-clause-within : goal.node_heads-requires-clause-within
 node_heads-requires-clause-within c = subst (λ ns. c.loop-i.i < length ns) c.nodes-i-end.ensures c.loop-i-test.true
 
 pub returns-in-Some : goal.returns-in-Some
 returns-in-Some c =
-    member_either c.args.sig.now c.args.table.now c.args.state.now c.args.known.now.sorted c.loop-i.i c.args.k (sym c.is_same.ensures ∙ c.if-not-is_same.false) c.in-Some.p c.in-Some.ensures
+    member_either c.args.sig.now c.args.table.now c.args.state.now c.args.known.now.sorted c.loop-i.i c.args.k (sym c.class_of.ensures ∙ c.if-class_of-class.false ∙ c.class_of-class.ensures) c.in-Some.p c.in-Some.ensures
