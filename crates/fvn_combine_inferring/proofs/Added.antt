@@ -36,7 +36,7 @@ module _ (d : Declarations) (t : NodeTable) (s : State) (f : OpId) (values : ℕ
   abbrev pub Adds : (i a b : ℕ) → Type 0
   Adds i a b = (q : FlatTerm) → times d s f values q i ≡ times d s f values q a + times d s f values q b
 
-  turned : (i a b : ℕ) → Adds i a b → Adds i b a
+  pub turned : (i a b : ℕ) → Adds i a b → Adds i b a
   turned i a b h q = let e = h q in omega (arith, e)
 
   pub many_adds : (i a b : ℕ) → Adds i a b → many d s f values i ≡ many d s f values a + many d s f values b
@@ -60,7 +60,7 @@ module _ (d : Declarations) (t : NodeTable) (s : State) (f : OpId) (values : ℕ
           omega (arith, x, z, y, v, e)
 
   -- where b has none, it has the value of a
-  alone : (i a b : ℕ) → Adds i a b → summands d s f values b ≡ [] → values (class_of s i) ≡ values (class_of s a)
+  pub alone : (i a b : ℕ) → Adds i a b → summands d s f values b ≡ [] → values (class_of s i) ≡ values (class_of s a)
   alone i a b h none =
       sym (sum_parts d f (values (class_of s i)) (go_with.are.settled (class_of s i)))
       ∙ sum_same_counts d f (summands d s f values i) (summands d s f values a) same
@@ -84,7 +84,7 @@ module _ (d : Declarations) (t : NodeTable) (s : State) (f : OpId) (values : ℕ
           omega (arith, m, n, some)
 
 module _ (d : Declarations) (t : NodeTable) (made : IsWellMade t) (has : HasSums d t) (s : State) (closed : IsClosed d t s) (f : OpId) (assoc : IsAssociative (axioms d f)) (i : ℕ) (within : i < length t.nodes) (p : ℕ × ℕ) (split : IsSplit t s f (class_of s i) p) where
-  adds : (values : ℕ → FlatTerm) (go_with : GoWith d t s values) → Adds d t s f values go_with i p.0 p.1
+  pub adds : (values : ℕ → FlatTerm) (go_with : GoWith d t s values) → Adds d t s f values go_with i p.0 p.1
   adds values go_with q =
       let e = split_adds d t has s closed values go_with made f assoc (class_of s i) p split q in
       let n = ap (λ k. count q (parts d f (values k))) (own_name d t s closed i within) in
@@ -107,10 +107,9 @@ module _ (d : Declarations) (t : NodeTable) (made : IsWellMade t) (has : HasSums
 
 module _ (d : Declarations) (t : NodeTable) (s : State) (sorted : Bool) (f : OpId) where
   -- what a class has holds of its members
-  pub member_some : (i k : ℕ) → is_same s i k ≡ true → HasSummand d t s sorted f i → HasSummand d t s sorted f k
+  pub member_some : (i k : ℕ) → class_of s i ≡ class_of s k → HasSummand d t s sorted f i → HasSummand d t s sorted f k
   member_some i k same h values go =
-      let e = eqb-true (class_of s i) (class_of s k) same in
-      let a = ap (λ c. length (parts d f (values c))) e in
+      let a = ap (λ c. length (parts d f (values c))) same in
       let b = h values go in
       omega (arith, a, b)
 

@@ -10,3 +10,4 @@ mod SortedValues
 mod HeadsTold
 mod Added
 mod Sizing
+mod EitherHead

@@ -11,13 +11,14 @@ ghost use Rattle.fvn_combine_inferring.specs.inner.Splits.{IsAddition};
 
 use crate::expressions::{Addition, unit_of};
 use crate::heads::Known;
+use crate::possible::is_possibly_headed;
 use crate::summed::is_summed;
 use fvn_combine_nodes::{State, Table, has_no_identity};
 use fvn_signature::Signature;
 use fvn_terms::OpId;
 
 // Whether g is neither f nor its identity.
-fn is_other_head(sig: &Signature, f: OpId, g: OpId) -> bool
+pub(crate) fn is_other_head(sig: &Signature, f: OpId, g: OpId) -> bool
     ensures { IsTrue result → IsOtherHead sig.now f g }
 {
     if g == f {
@@ -168,7 +169,10 @@ pub(crate) fn has_summand(
     if is_apart_from_unit(sig, table, state, known.sorted, addition.operator, k) {
         return true;
     }
-    is_summed(sig, table, state, known, addition.operator, k)
+    if is_summed(sig, table, state, known, addition.operator, k) {
+        return true;
+    }
+    is_possibly_headed(sig, table, state, known, addition.operator, k)
 }
 
 // Whether the value of the class of node k has one summand at most.
@@ -191,7 +195,10 @@ pub(crate) fn has_few_summands(
     if is_headed(sig, table, state, known, addition.operator, k) {
         return true;
     }
-    is_marked(state, known, addition.narrow.as_slice(), k)
+    if is_marked(state, known, addition.narrow.as_slice(), k) {
+        return true;
+    }
+    is_possibly_headed(sig, table, state, known, addition.operator, k)
 }
 
 // Whether the value of the class of node k is one summand.

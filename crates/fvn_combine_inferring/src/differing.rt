@@ -10,6 +10,7 @@ ghost use Rattle.fvn_combine_inferring.specs.inner.Splits.{IsAddition};
 use crate::bounds::{are_apart, has_few_summands};
 use crate::expressions::Addition;
 use crate::heads::Known;
+use crate::possible::are_headed_apart;
 use crate::sizes::{Inside, is_smaller};
 use crate::summed::is_no_unit;
 use fvn_combine_nodes::{State, Table};
@@ -54,7 +55,10 @@ pub fn differ(
     if have_two_heads(known.heads.as_slice(), state.class_of(i), state.class_of(j)) {
         return true;
     }
-    is_no_unit(sig, table, state, known, i, j)
+    if is_no_unit(sig, table, state, known, i, j) {
+        return true;
+    }
+    are_headed_apart(sig, table, state, known, i, j)
 }
 
 // Whether the value of the class of node k is no summand of that of the class of node l for sure: it has more symbols, or

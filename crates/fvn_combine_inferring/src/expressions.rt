@@ -43,7 +43,7 @@ fn pair(ks: &[usize]) -> Option<(usize, usize)>
 }
 
 // The two arguments of a node that f heads.
-fn addends(table: &Table, f: OpId, i: usize) -> Option<(usize, usize)>
+pub(crate) fn addends(table: &Table, f: OpId, i: usize) -> Option<(usize, usize)>
     requires { i < length table.now.nodes }
     ensures is { result ≡ addends f (slice_get table.now.nodes i) }
     ensures within { IfSome result (λ p.
@@ -69,7 +69,7 @@ pub(crate) fn split_at(table: &Table, state: &State, f: OpId, i: usize) -> Optio
 }
 
 // The operator that is noted of the class of node i.
-fn head_at(state: &State, heads: &[Option<OpId>], i: usize) -> Option<OpId>
+pub(crate) fn head_at(state: &State, heads: &[Option<OpId>], i: usize) -> Option<OpId>
     requires within { i < length state.now.names }
     requires heads { class_of state.now i < length heads.now }
     ensures { result ≡ slice_index_or heads.now (class_of state.now i) None }

@@ -10,6 +10,7 @@ mod heads;
 mod inferring;
 mod laws;
 mod meeting;
+mod possible;
 mod rows;
 mod rules;
 mod sizes;

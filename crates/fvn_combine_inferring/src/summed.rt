@@ -80,8 +80,9 @@ pub(crate) fn is_summed(
     requires within { k < length table.now.nodes }
     ensures { IsTrue result → HasSummand sig.now table.now state.now known.now.sorted f k }
 {
-    for i in 0..table.nodes().len() {
-        if !state.is_same(i, k) {
+    let class = state.class_of(k);
+    for i in class..table.nodes().len() {
+        if state.class_of(i) != class {
             continue;
         }
         if adds_summand(sig, table, state, known, f, i) {

@@ -6,7 +6,9 @@ use Rattle.fvn_terms.specs.declared.declarations.Declarations.{Declarations}
 use Rattle.fvn_terms.specs.Signature.{axioms}
 use Rattle.fvn_terms.specs.Equality.{identity}
 use Rattle.fvn_forms.specs.Flat.{FlatTerm}
+use Rattle.fvn_flat.specs.Forms.{head_of}
 use Rattle.fvn_combine_nodes.specs.Table.{NodeTable}
+use Rattle.fvn_combine_nodes.specs.States.{class_of}
 use Rattle.fvn_combine_nodes.specs.declared.state.State.{State}
 use Rattle.fvn_combine_inferring.specs.Sorted.{GoWithSorts}
 use Rattle.fvn_combine_inferring.specs.Inferred.{HaveTwoValues}
@@ -25,7 +27,24 @@ module _ (d : Declarations) (f : OpId) where
   abbrev pub IsHeadedApart : List (Option OpId) → ℕ → Type 0
   IsHeadedApart heads k = (g : OpId) × (slice_index_or heads k None ≡ Some g) × IsOtherHead g
 
+  -- g is such an operator, and noted of class k
+  abbrev pub IsNotedApart : List (Option OpId) → ℕ → OpId → Type 0
+  IsNotedApart heads k g = (slice_index_or heads k None ≡ Some g) × IsOtherHead g
+
+  -- so it is of class k, or of class l
+  abbrev pub IsNotedOfEither : List (Option OpId) → (k l : ℕ) → OpId → Type 0
+  IsNotedOfEither heads k l g = IsNotedApart heads k g ⊎ IsNotedApart heads l g
+
 module _ (d : Declarations) (t : NodeTable) (s : State) (sorted : Bool) where
+  -- one of both operators heads the value of the class of node k, whatever values go with the state
+  abbrev pub HasEitherHead : ℕ → OpId × OpId → Type 0
+  HasEitherHead k p = (values : ℕ → FlatTerm) → GoWithSorts d t s sorted values → (head_of (values (class_of s k)) ≡ Some p.0) ⊎ (head_of (values (class_of s k)) ≡ Some p.1)
+
+  -- whatever values go with the state, where that of the class of node k has a summand, that of the class of node i is the
+  -- same, or has two
+  abbrev pub IsAddedLast : OpId → (i k : ℕ) → Type 0
+  IsAddedLast f i k = (values : ℕ → FlatTerm) → GoWithSorts d t s sorted values → 1 ≤ many d s f values k → (2 ≤ many d s f values i) ⊎ (values (class_of s i) ≡ values (class_of s k))
+
   -- whatever values go with the state, that of the class of node k has two summands
   abbrev pub HasTwoSummands : OpId → ℕ → Type 0
   HasTwoSummands f k = (values : ℕ → FlatTerm) → GoWithSorts d t s sorted values → 2 ≤ many d s f values k
@@ -43,6 +62,10 @@ module _ (d : Declarations) (t : NodeTable) (s : State) (sorted : Bool) where
 -- different operators are noted of classes k and l
 abbrev pub HaveTwoHeads : List (Option OpId) → ℕ → ℕ → Type 0
 HaveTwoHeads heads k l = (f : OpId) × (g : OpId) × (slice_index_or heads k None ≡ Some f) × (slice_index_or heads l None ≡ Some g) × (f ≢ g)
+
+-- neither of two operators is one of two others
+abbrev pub AreUnlike : OpId × OpId → OpId × OpId → Type 0
+AreUnlike p q = (p.0 ≢ q.0) × (p.0 ≢ q.1) × (p.1 ≢ q.0) × (p.1 ≢ q.1)
 
 -- x is l, or P holds of it
 abbrev pub IsItOr : (ℕ → Type 0) → ℕ → ℕ → Type 0

@@ -86,3 +86,15 @@ fn searches_stay_short(rt: HostRuntime) -> Result<(), NoMemory> {
     assert_rows(&rt, rt.alloc(), BAGS, SEARCHED_OF_BAGS)?;
     assert_rows(&rt, rt.alloc(), RINGS, SEARCHED_OF_RINGS)
 }
+
+// Bags of a term and of a sum with an identity that adds a constant, which is so the constant or a sum, and not the term: the
+// same one within another, where the constant is the last of three that are added, and bags of two such sums.
+const SEARCHED_OF_HEADS: &str = "search A0 h f A1 l k = A2 h f A3 l k => few | 3 2
+search A0 h f A1 l k h f A4 l k = A2 h f A3 l k h f A5 l k => few | 9 5
+search A0 h A1 A2 f l l k = A3 h A4 A5 f l l k => few | 3 2
+search f A1 l o A2 m k = f A3 l o A4 m k => few | 7 4";
+
+#[test]
+fn possible_heads_are_seen(rt: HostRuntime) -> Result<(), NoMemory> {
+    assert_rows(&rt, rt.alloc(), OPERATORS, SEARCHED_OF_HEADS)
+}

@@ -1,4 +1,4 @@
--- The value is one summand, or sorts have it.
+-- The value is one summand, or sorts have it, or it has one of two heads.
 use Rattle.std.proofs.Common.{List, length, ap, subst, arith}
 use Rattle.std.specs.Prelude.{Bool}
 use Rattle.fvn_combine_nodes.specs.States.{class_of}
@@ -19,8 +19,11 @@ is_marked-requires c =
 pub returns-then-is_headed : goal.returns-then-is_headed
 returns-then-is_headed c t values go = let n = ap length (c.is_headed.ensures c.if-is_headed.true values go) in omega (arith, n)
 
-pub returns : goal.returns
-returns c t values go =
+pub returns-then-is_marked : goal.returns-then-is_marked
+returns-then-is_marked c t values go =
     let a = c.args.addition.now in
-    let marked = subst (λ (l : List Bool). IsMarked c.args.known.now.sorted l (class_of c.args.state.now c.args.k)) c.as_slice.ensures (c.is_marked.ensures t) in
+    let marked = subst (λ (l : List Bool). IsMarked c.args.known.now.sorted l (class_of c.args.state.now c.args.k)) c.as_slice.ensures (c.is_marked.ensures c.if-is_marked.true) in
     narrow_few c.args.sig.now c.args.table.now c.args.state.now c.args.known.now.sorted a.operator c.requires.addition.associative a.narrow c.requires.addition.narrow c.args.k marked values go
+
+pub returns : goal.returns
+returns c t values go = let n = ap length (c.is_possibly_headed.ensures t values go) in omega (arith, n)

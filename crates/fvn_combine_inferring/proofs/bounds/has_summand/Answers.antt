@@ -30,3 +30,6 @@ returns-then-is_marked c t values go =
     let a = c.args.addition.now in
     let marked = subst (λ (l : List Bool). IsMarked c.args.known.now.sorted l (class_of c.args.state.now c.args.k)) c.as_slice.ensures (c.is_marked.ensures c.if-is_marked.true) in
     other_summand c.args.sig.now c.args.table.now c.args.state.now c.args.known.now.sorted a.operator a.other c.requires.addition.other c.args.k marked values go
+
+pub returns : goal.returns
+returns c t values go = let n = ap length (c.is_possibly_headed.ensures t values go) in omega (arith, n)
