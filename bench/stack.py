@@ -43,12 +43,39 @@ def row_of(statement, *words):
     return list(words), module(statement)
 
 
+def sided(left, bound):
+    """A term that is rewritten once, by an equation with this left side."""
+    return ["verify", "X:S =? a", "{X:S --> f(%s)}" % bound], module("op _*_ : S S -> S [assoc comm] . eq f(%s) = a [variant] . " % left)
+
+
+def sum_of(part, n):
+    """A sum of so many, with the variables X0, Z0, X1, Z1, .. in them."""
+    return "_+_(%s)" % ",".join(part.replace("X", "X%d" % i).replace("Z", "Z%d" % i) for i in range(n))
+
+
+def alternating(n, leaf):
+    """Sums of two operators, one within another."""
+    for i in range(n):
+        leaf = "_+_(X%d:S,_*_(Z%d:S,%s))" % (i, i, leaf)
+    return leaf
+
+
+def other(term):
+    """The term with other variables."""
+    return term.replace("X", "Y").replace("Z", "W")
+
+
 BAGS = "fmod BAGS is sorts E M . subsort E < M . op mt : -> M . op g : M -> M . op __ : M M -> M [assoc comm id: mt] . endfm\n"
 COPIES = " /\\ ".join(["T:M =? " + unary(120, "__(X:M,Z:M)"), *("Y%d:M =? T:M" % i for i in range(20))])
 TWO = "__(A:E,X:M) =? __(B:E,Z:M)"
 CONSTANTS = ",".join("c%d" % i for i in range(1, 21))
 NESTS = ("fmod NESTS is sorts E M . subsort E < M . op mt : -> M . ops a %s : -> E . ops f g : M -> M . op k : M M -> M [comm] . "
          "op __ : M M -> M [assoc comm id: mt] . " % CONSTANTS.replace(",", " "))
+OPEN = "X:S"
+for _ in range(49):
+    OPEN = "k(k(_+_(V:S,W:S),_+_(W:S,U:S)),%s)" % OPEN
+OPENING = "eq f(%s) = f(X:S) [variant] . " % OPEN
+VARIABLES, GROUPS, DEEP_SUMS = sum_of("X:S", 198), sum_of("_*_(X:S,X:S)", 99), alternating(98, "X:S")
 SUMMING = "eq f(%s) = f(X:M) [variant] . " % sums(32, "X:M")
 TURNING = "eq f(%s) = f(X:S) [variant] . " % right(49, "k", "X:S")
 FALLING = "eq f(%s) = f(X:S) [variant] . " % unary(98, "X:S")
@@ -91,6 +118,11 @@ ROWS = {
     "verify, 499 steps": row_of(EVEN, "verify", "X:S =? X:S", "{X:S --> %s}" % unary(999)),
     "verify, pairs to the left": row_of("", "verify", "X:S =? X:S", "{X:S --> %s}" % left(499, "p")),
     "verify, commutative pairs to the right": row_of("", "verify", "X:S =? X:S", "{X:S --> %s}" % right(499, "k")),
+    "verify, a left side of 198 variables": sided(VARIABLES, other(VARIABLES)),
+    "verify, a left side of 99 sums beside one another": sided(GROUPS, other(GROUPS)),
+    "verify, a left side of 101 sums one within another": sided(
+        alternating(50, "_+_(g(U:S),V:S)"), other(alternating(50, "_+_(g(a),%s)" % unary(650)))),
+    "verify, a left side of 196 sums one within another": sided(DEEP_SUMS, other(DEEP_SUMS)),
     "terminates, sides of 400": row_of(LARGE, "terminates", "g : 1 1"),
     "work": (["work", "4"], ""),
     "unify, 21 values of 120 symbols": (["unify", COPIES + " /\\ __(A:E,X:M) =? __(B:E,Z:M)"], BAGS),
@@ -101,6 +133,9 @@ ROWS = {
     "vunify, two values of 980 symbols": row_of(FALLING, "vunify", "--levels=12", "f(X:S) =? f(Y:S)"),
     "vunify, two values of 980 symbols in commutative pairs": row_of(TURNING, "vunify", "--levels=12", "f(X:S) =? f(Y:S)"),
     "vunify, two values of 960 symbols in sums": (["vunify", "--levels=12", "f(X:M) =? f(Y:M)"], NESTS + SUMMING + "endfm\n"),
+    "vunify, two values that leave many choices each": row_of(OPENING, "vunify", "--levels=4", "f(X:S) =? f(Y:S)"),
+    "vunify, eighteen values that leave many choices each": row_of(
+        OPENING, "vunify", "--levels=4", "f(X:S) =? f(Z:S)" + "".join(" /\\ Y%d:S =? X:S" % i for i in range(16))),
     "vunify, twelve values of 980 symbols": row_of(FALLING, "vunify", "--levels=12", twelve("S")),
     "vunify, twelve values of 980 symbols in commutative pairs": row_of(TURNING, "vunify", "--levels=12", twelve("S")),
     "vunify, twelve values of 960 symbols in sums": (["vunify", "--levels=12", twelve("M")], NESTS + SUMMING + "endfm\n"),

@@ -21,7 +21,7 @@ use std::thread::Threads;
 // A table is a text of blocks, with an empty line between two. A block is a module, ` <=` and a line of its own for each
 // row; or rows alone. A row is `words ==> number | lines`, or `words <= module ==> number | lines`: the words of the
 // command line, with ` | ` between two; the number that the run exits with; and the lines that it writes, or in place of
-// all but the last of them how many these are, as in `7 lines | complete 7`. Between two tildes a number, `%` and a part
+// all but the last of them how many these are, as in `7 lines | complete 7`; or `nothing`. Between two tildes a number, `%` and a part
 // stand for the part so many times, with the number of each time, from 0 on, in place of a mark `@`.
 
 /// The bytes that a sink has room for.
@@ -129,8 +129,11 @@ fn words_of(alloc: Global, command: &str) -> Result<Vec<String>, NoMemory> {
     Ok(words)
 }
 
-/// The lines of a row, each with its end.
+/// The lines of a row, each with its end; or `nothing`.
 fn text_of(alloc: Global, lines: &str) -> Result<String, NoMemory> {
+    if lines == "nothing" {
+        return Ok(String::new(alloc));
+    }
     let mut text = lines.replace(alloc, " | ", "\n")?;
     text.push('\n')?;
     Ok(text)

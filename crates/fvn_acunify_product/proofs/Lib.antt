@@ -3,3 +3,4 @@ mod Ranks
 mod Stepping
 mod WheelSteps
 mod Left
+mod Skips

@@ -1,5 +1,5 @@
 -- Tags: at each place one of its own options, by number; 0 stands for none.
-use Rattle.std.specs.Prelude.{ℕ, ◌<◌, List, Option}
+use Rattle.std.specs.Prelude.{◌≡◌, ℕ, ◌<◌, ◌≤◌, List, slice_index, Option, Some, None}
 use Rattle.fvn_acunify_product.specs.ToCome.{IsToCome}
 use Rattle.fvn_acunify_product.specs.Weight.{weight}
 
@@ -19,3 +19,8 @@ PendingTags t numbers = IsToCome IsOption t.counts t.current numbers
 -- how many lists of options are still to come
 abbrev pub tags_left : Tagging → ℕ
 tags_left t = weight t.counts t.current
+
+-- the numbers are the current ones up to the place
+abbrev pub AgreesUpTo : ℕ → Option (List ℕ) → List ℕ → Type 0
+AgreesUpTo place None numbers = ⊥
+AgreesUpTo place (Some current) numbers = (k : ℕ) → k ≤ place → slice_index numbers k ≡ slice_index current k

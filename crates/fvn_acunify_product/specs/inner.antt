@@ -1,2 +1,3 @@
 -- What an odometer's code goes over.
 pub mod Steps
+pub mod Skips

@@ -3,8 +3,9 @@ ghost use Rattle.std.specs.Prelude.{◌≡◌, ◌≢◌, ◌↔◌, ◌⊎◌, 
 ghost use Rattle.std.specs.List.{AllZip};
 ghost use Rattle.fvn_acunify_product.specs.ToCome.{IsGreatest};
 ghost use Rattle.fvn_acunify_product.specs.Weight.{product};
-ghost use Rattle.fvn_acunify_product.specs.Tags.{IsOption, PendingTags, tags_left};
+ghost use Rattle.fvn_acunify_product.specs.Tags.{AgreesUpTo, IsOption, PendingTags, tags_left};
 ghost use Rattle.fvn_acunify_product.specs.inner.Steps.{IsBare, IsEnd, IsLast, IsMoved, IsNext, IsRestarted};
+ghost use Rattle.fvn_acunify_product.specs.inner.Skips.{IsEndAfter, IsLowered, IsNextAfter};
 
 use fvn_base::NoMemory;
 use std::alloc::Global;
@@ -83,6 +84,24 @@ impl Tags {
         }
     }
 
+    /// Passes all lists that agree with the current one up to a place; takes no memory.
+    pub fn skip(&mut self, place: usize)
+        requires within { place < length self.old.counts }
+        ensures counts { self.new.counts ≡ self.old.counts }
+        ensures taken { (numbers : List ℕ) → PendingTags self.old numbers
+            → AgreesUpTo place self.old.current numbers ⊎ PendingTags self.new numbers }
+        ensures kept { (numbers : List ℕ) →
+            PendingTags self.new numbers → PendingTags self.old numbers }
+        ensures passed { (numbers : List ℕ) →
+            PendingTags self.new numbers → ¬ AgreesUpTo place self.old.current numbers }
+        ensures falls { (numbers : List ℕ) →
+            self.old.current ≡ Some numbers → tags_left self.new < tags_left self.old }
+    {
+        if !self.is_over {
+            self.is_over = !step_after(self.counts.as_slice(), self.numbers.as_mut_slice(), place);
+        }
+    }
+
     /// Goes back to the start: all lists of options are to come; takes no memory.
     pub fn again(&mut self)
         ensures counts { self.new.counts ≡ self.old.counts }
@@ -114,6 +133,30 @@ fn step(counts: &[u32], numbers: &mut [u32]) -> bool
     match move_last(counts, numbers) {
         None => false,
         Some(place) => restart(counts, numbers, place + 1),
+    }
+}
+
+/// Puts the greatest list of options before all that agree with the one that stands there up to a
+/// place, or answers that none is.
+fn step_after(counts: &[u32], numbers: &mut [u32], place: usize) -> bool
+    requires options { AllZip IsOption counts.now numbers.old }
+    requires within { place < length counts.now }
+
+    ensures next { IsTrue result → IsNextAfter counts.now place numbers.old numbers.new }
+    ensures last { result ≡ false → IsEndAfter counts.now place numbers.old }
+{
+    lower(numbers, place + 1);
+    step(counts, numbers)
+}
+
+/// Puts 0 at each place from one on.
+fn lower(numbers: &mut [u32], from: usize)
+    requires { from ≤ length numbers.old }
+
+    ensures { IsLowered from numbers.old numbers.new }
+{
+    for place in from..numbers.len() {
+        numbers[place] = 0;
     }
 }
 

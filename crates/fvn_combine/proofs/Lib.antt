@@ -3,6 +3,10 @@ mod Room
 mod Current
 mod Turned
 mod PassedTags
+mod TagsBy
+mod Homeless
+mod Listing
+mod Items
 mod Walk
 mod Trees
 mod Ahead

@@ -1,79 +1,143 @@
--- Tags that go against what is known of the values of classes cover nothing: they are passed over.
-use Rattle.std.proofs.Common.{◌≡◌, ℕ, ◌<◌, List, length, sym, ◌∙◌, subst, inl, inr, arith, zero-le, Option, Some, None, true, All, Any}
-use Rattle.std.specs.Prelude.{Bool, ◌⊎◌, ◌↔◌}
+-- Tags that go against what is known of the values of classes, or leave a class without a home, cover nothing, whatever the
+-- tags of the later classes are: all these are passed over at once.
+use Rattle.std.proofs.Common.{◌≡◌, ℕ, ◌+◌, ◌<◌, List, length, take, refl, sym, ◌∙◌, subst, ap, inl, inr, arith, zero-le, Option, Some, None, true, All, Any, Contains}
+use Rattle.std.specs.Prelude.{Bool, ◌⊎◌, slice_get}
+use Rattle.std.proofs.lemmas.List.{length-map}
 use Rattle.std.proofs.lemmas.List.Elements.{All-contains}
-use Rattle.fvn_base.proofs.Options.{Some-injective}
+use Rattle.std.proofs.lemmas.Option.{slice_get_within, get_or_from_slice_get}
+use Rattle.std.proofs.lemmas.Slice.Zip.{AllZip-long}
 use Rattle.fvn_terms.specs.declared.plain.OpId.{OpId}
 use Rattle.fvn_terms.specs.Substitution.{Substitution}
 use Rattle.fvn_combine_nodes.specs.States.{class_of}
 use Rattle.fvn_combine_nodes.specs.Unifiers.{value_at}
 use Rattle.fvn_combine_nodes.specs.declared.state.State.{State}
-use Rattle.fvn_acunify_product.specs.Tags.{Tagging, PendingTags, tags_left}
+use Rattle.fvn_acunify_product.specs.Tags.{Tagging, IsOption, AgreesUpTo, PendingTags, tags_left}
+use Rattle.fvn_combine_leaves.specs.Users.{IsWhole}
+use Rattle.fvn_combine_leaves.proofs.ReadOfState.{reading_whole}
+use Rattle.fvn_combine_drawing.specs.CombineAdmissibleListed.{tag_in, choice_of}
 use Rattle.fvn_combine_drawing.specs.CombineCandidatesSharing.{IsSharedClass}
-use Rattle.fvn_combine_drawing.specs.CombineCandidatesTags.{AreTags}
+use Rattle.fvn_combine_drawing.specs.CombineCandidatesTags.{AreTags, user_at}
+use Rattle.fvn_combine_drawing.specs.CombineCandidatesDeclared.sharing.SharedClass.{SharedClass}
 use Rattle.fvn_combine_inferring.specs.Sorted.{GoWithSorts}
-use Rattle.fvn_combine.specs.Tasks.{Combining}
+use Rattle.fvn_combine.specs.Tasks.{Combining, IsCombining}
 use Rattle.fvn_combine.specs.Leaves.{IsCoveredBy, IsCoveredLater, IsCoveredToCome, IsOpened}
 use Rattle.fvn_combine.specs.declared.opened.Opened.{Opened}
 use Rattle.fvn_combine.specs.Work.{most_numbers, numbers_left}
-use Rattle.fvn_combine.specs.inner.Against.{IsAgainst}
+use Rattle.fvn_combine.specs.inner.Against.{IsAgainst, IsAgainstAt}
 use Rattle.fvn_combine.specs.inner.Found.{IsTurned}
 use Rattle.fvn_combine.proofs.Less.{falls-le}
+use Rattle.fvn_combine.proofs.TagsBy.{tag_at, some_tags}
+use Rattle.fvn_combine.proofs.Items.{taken_at}
+use Rattle.fvn_combine.proofs.Homeless.{homeless_is_impossible}
 
--- the shared classes are nodes
-pub classes_within : (k : Combining) (s : State) (o : Opened) → IsOpened k s o → (n : ℕ) → n ≡ length k.table.nodes → All (λ c. c.class < n) o.shared
-classes_within k s o opened n e i c l = let w = (opened.shared.each i c l).within in omega (arith, w, e)
+module _ (k : Combining) (s : State) (o : Opened) (opened : IsOpened k s o) where
+  -- the shared classes are nodes
+  pub classes_within : (n : ℕ) → n ≡ length k.table.nodes → All (λ c. c.class < n) o.shared
+  classes_within n e i c l = let w = (opened.shared.each i c l).within in omega (arith, w, e)
 
-module _ (k : Combining) (s : State) (o : Opened) (opened : IsOpened k s o) (tags : List (Option OpId)) (against : Any (IsAgainst k.declarations o.known.heads.items tags) o.shared) where
-  -- the value is a sum by the operator, so that this is the tag that it obeys
-  none_covered : (numbers : List ℕ) (u : Substitution) → IsCoveredBy k s o.reading o.bases tags numbers u → ⊥
-  none_covered numbers u h =
-      let c = against.1 in
-      let a = against.4 in
-      let each = All-contains (IsSharedClass k.declarations k.table (class_of s) k.sorted) o.shared c opened.shared.each (against.0, against.2, against.3) in
-      let uses = ((each.exact a.head).0 a.user).0 in
-      let values = subst (λ (b : Bool). GoWithSorts k.declarations k.table s b (value_at k.declarations u k.table.nodes)) (sym opened.sorted) h.values in
-      let sum = opened.known.joined c.class a.head each.within a.noted a.some (value_at k.declarations u k.table.nodes) values in
-      a.other ((h.tagged c.class a.head each.shared uses).1 sum)
+  -- what is read is whole
+  pub whole_of : IsCombining k → IsWhole (length o.reading.heads) o.reading
+  whole_of is =
+      subst (λ n. IsWhole n o.reading) (sym opened.reading.heads.as_many)
+      (reading_whole k.declarations k.table is.well_made s opened.ready.closed o.reading opened.reading)
 
-  module _ (options : List ℕ) (are : AreTags o.shared options tags) (after : Tagging) (counts : after.counts ≡ o.tags.counts) (now : o.tags.current ≡ Some options) (taken : (n : List ℕ) → PendingTags o.tags n ↔ ((o.tags.current ≡ Some n) ⊎ PendingTags after n)) (falls : tags_left after < tags_left o.tags) where
-    abbrev passed_leaf : Opened
-    passed_leaf = record { reading = o.reading; known = o.known; bases = o.bases; shared = o.shared; tags = after; turning = None }
+  counts_each : length o.tags.counts ≡ length o.shared
+  counts_each = ap length opened.counts ∙ length-map o.shared (λ (c : SharedClass). length c.users + 1)
 
-    still_opened : IsOpened k s passed_leaf
-    still_opened = record {
-      ready = opened.ready;
-      leaf = opened.leaf;
-      reading = opened.reading;
-      known = opened.known;
-      sorted = opened.sorted;
-      bases = opened.bases;
-      shared = opened.shared;
-      counts = counts ∙ opened.counts;
-      turning = λ v e. cc;
-    }
+  -- there is a count for each shared class, and an option
+  pub place_within : (place : ℕ) → place < length o.shared → place < length o.tags.counts
+  place_within place l = let m = counts_each in omega (arith, l, m)
 
-    to_come : (u : Substitution) → IsCoveredLater k s o u → IsCoveredToCome k s passed_leaf u
-    to_come u h = elim ((taken h.options).0 h.pending) [
-      | inl e ↦ absurd (none_covered h.numbers u (h.covered tags (subst (λ n. AreTags o.shared n tags) (Some-injective (sym now ∙ e)) are)))
-      | inr p ↦ inr (record {
+  option_each : (options : List ℕ) → PendingTags o.tags options → length options ≡ length o.shared
+  option_each options h = AllZip-long IsOption o.tags.counts options h.0 ∙ counts_each
+
+  module _ (is : IsCombining k) (options : List ℕ) (pending : PendingTags o.tags options) (tags : List (Option OpId)) (are : AreTags o.shared options tags) (place : ℕ) (against : IsAgainstAt k.declarations o.known.heads.items o.reading o.bases o.shared tags place) where
+    abbrev decided : List SharedClass
+    decided = take (place + 1) o.shared
+
+    decided_at : (a : SharedClass) → Contains decided a → (q : ℕ) × (q < place + 1) × (slice_get o.shared q ≡ Some a)
+    decided_at a c = taken_at o.shared (place + 1) a (let l = against.within in omega (arith, l)) c
+
+    is_shared : (a : SharedClass) → Contains decided a → IsSharedClass k.declarations k.table (class_of s) k.sorted a
+    is_shared a c =
+        let q = decided_at a c in
+        All-contains (IsSharedClass k.declarations k.table (class_of s) k.sorted) o.shared a opened.shared.each
+        (q.0, slice_get_within o.shared q.0 a q.2, get_or_from_slice_get o.shared q.0 a a q.2)
+
+    -- options that agree up to the place stand for the same tags there
+    same_tag : (n : List ℕ) → PendingTags o.tags n → AgreesUpTo place (Some options) n → (others : List (Option OpId)) → AreTags o.shared n others → (a : SharedClass) → Contains decided a → tag_in others a.class ≡ tag_in tags a.class
+    same_tag n p agrees others by a c =
+        let q = decided_at a c in
+        let l = q.1 in
+        by a.class
+        ∙ tag_at o.shared n opened.shared.distinct (option_each n p) q.0 a q.2
+        ∙ ap (user_at a.users) (agrees q.0 (omega (arith, l)))
+        ∙ sym (tag_at o.shared options opened.shared.distinct (option_each options pending) q.0 a q.2)
+        ∙ sym (are a.class)
+
+    -- the tag of a class whose value is a sum is another one
+    against_head : (others : List (Option OpId)) → ((a : SharedClass) → Contains decided a → tag_in others a.class ≡ tag_in tags a.class) → Any (IsAgainst k.declarations o.known.heads.items tags) decided → (numbers : List ℕ) (u : Substitution) → IsCoveredBy k s o.reading o.bases others numbers u → ⊥
+    against_head others same any numbers u h =
+        let c = any.1 in
+        let a = any.4 in
+        let listed : Contains decided c = (any.0, any.2, any.3) in
+        let each = is_shared c listed in
+        let uses = ((each.exact a.head).0 a.user).0 in
+        let values = subst (λ (b : Bool). GoWithSorts k.declarations k.table s b (value_at k.declarations u k.table.nodes)) (sym opened.sorted) h.values in
+        let sum = opened.known.joined c.class a.head each.within a.noted a.some (value_at k.declarations u k.table.nodes) values in
+        a.other (sym (same c listed) ∙ (h.tagged c.class a.head each.shared uses).1 (inl sum))
+
+    -- options that agree up to the place cover nothing
+    none_covered : (u : Substitution) (h : IsCoveredLater k s o u) → AgreesUpTo place (Some options) h.options → ⊥
+    none_covered u h agrees =
+        let others = some_tags (length k.table.nodes) o.shared h.options (classes_within (length k.table.nodes) refl) in
+        let covered = h.covered others.0 others.1 in
+        let same = same_tag h.options h.pending agrees others.0 others.1 in
+        elim against.against [
+          | inl any ↦ against_head others.0 same any h.numbers u covered
+          | inr leave ↦
+              homeless_is_impossible k is s opened.ready.closed o.reading opened.reading (tag_in others.0) decided tags (λ a c. (is_shared a c).shared) same o.bases opened.bases leave
+              (choice_of o.reading others.0 h.numbers).number covered.covering.possible
+        ]
+
+    module _ (after : Tagging) (counts : after.counts ≡ o.tags.counts) (now : o.tags.current ≡ Some options) (taken : (n : List ℕ) → PendingTags o.tags n → AgreesUpTo place o.tags.current n ⊎ PendingTags after n) (kept : (n : List ℕ) → PendingTags after n → PendingTags o.tags n) (falls : tags_left after < tags_left o.tags) where
+      abbrev passed_leaf : Opened
+      passed_leaf = record { reading = o.reading; known = o.known; bases = o.bases; shared = o.shared; tags = after; turning = None }
+
+      still_opened : IsOpened k s passed_leaf
+      still_opened = record {
+        ready = opened.ready;
+        leaf = opened.leaf;
+        reading = opened.reading;
+        known = opened.known;
+        sorted = opened.sorted;
+        bases = opened.bases;
+        shared = opened.shared;
+        counts = counts ∙ opened.counts;
+        turning = λ v e. cc;
+      }
+
+      to_come : (u : Substitution) → IsCoveredLater k s o u → IsCoveredToCome k s passed_leaf u
+      to_come u h = elim (taken h.options h.pending) [
+        | inl agrees ↦ absurd (none_covered u h (subst (λ current. AgreesUpTo place current h.options) now agrees))
+        | inr p ↦ inr (record {
+          options = h.options;
+          pending = p;
+          numbers = h.numbers;
+          as_many = h.as_many;
+          covered = h.covered;
+        })
+      ]
+
+      was_to_come : (u : Substitution) → IsCoveredToCome k s passed_leaf u → IsCoveredLater k s o u
+      was_to_come u (inl h) = absurd h
+      was_to_come u (inr h) = record {
         options = h.options;
-        pending = p;
+        pending = kept h.options h.pending;
         numbers = h.numbers;
         as_many = h.as_many;
         covered = h.covered;
-      })
-    ]
+      }
 
-    was_to_come : (u : Substitution) → IsCoveredToCome k s passed_leaf u → IsCoveredLater k s o u
-    was_to_come u (inl h) = absurd h
-    was_to_come u (inr h) = record {
-      options = h.options;
-      pending = (taken h.options).1 (inr h.pending);
-      numbers = h.numbers;
-      as_many = h.as_many;
-      covered = h.covered;
-    }
-
-    pub passed : IsTurned k s o passed_leaf true
-    passed = (still_opened, falls, to_come, was_to_come, falls-le (most_numbers k) (tags_left o.tags) (tags_left after) 0 (numbers_left o.turning) falls zero-le)
+      pub passed : IsTurned k s o passed_leaf true
+      passed = (still_opened, falls, to_come, was_to_come, falls-le (most_numbers k) (tags_left o.tags) (tags_left after) 0 (numbers_left o.turning) falls zero-le)

@@ -3,3 +3,4 @@ pub mod Found
 pub mod Parts
 pub mod Alike
 pub mod Against
+pub mod Homes

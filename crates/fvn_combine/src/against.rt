@@ -1,9 +1,14 @@
 //! Tags that go against what is known of the values of classes.
-ghost use Rattle.std.specs.Prelude.{◌≡◌, ◌≢◌, ◌<◌, length, Some, All, Any, Contains, IsTrue};
-ghost use Rattle.fvn_combine.specs.inner.Against.{IsAgainst};
+ghost use Rattle.std.specs.Prelude.{◌≡◌, ◌<◌, length, All, Any, Contains, IsTrue, IfSome};
+ghost use Rattle.fvn_combine_leaves.specs.Users.{IsWhole};
+ghost use Rattle.fvn_combine.specs.inner.Against.{IsAgainst, IsAgainstUpTo, IsAgainstAt};
 
+use crate::homes::{is_other, leave_homeless};
+use fvn_base::Seq;
 use fvn_combine_drawing::SharedClass;
+use fvn_combine_leaves::Reading;
 use fvn_combine_nodes::has_no_identity;
+use fvn_lindio::Solution;
 use fvn_signature::Signature;
 use fvn_terms::OpId;
 
@@ -17,16 +22,6 @@ fn is_user(users: &[OpId], g: OpId) -> bool
         }
     }
     false
-}
-
-// Whether the tag is another one than g, or none.
-fn is_other(tag: Option<OpId>, g: OpId) -> bool
-    ensures { IsTrue result → (tag ≢ Some g) }
-{
-    match tag {
-        None => true,
-        Some(f) => f != g,
-    }
 }
 
 // Whether the value of a shared class is known to be a sum by an operator that uses it, and its tag is another one.
@@ -55,7 +50,7 @@ fn is_against(
 }
 
 // Whether some tag goes against what is known of its class.
-pub(crate) fn go_against(
+fn go_against(
     sig: &Signature,
     shared: &[SharedClass],
     heads: &[Option<OpId>],
@@ -71,4 +66,51 @@ pub(crate) fn go_against(
         }
     }
     false
+}
+
+// Whether some tag of these shared classes goes against what is known of its class, or they leave one without a home.
+fn are_against(
+    sig: &Signature,
+    heads: &[Option<OpId>],
+    reading: &Reading,
+    bases: &[Seq<Solution>],
+    decided: &[SharedClass],
+    tags: &[Option<OpId>],
+) -> bool
+    requires heads { All (λ c. c.class < length heads.now) decided.now }
+    requires tags { All (λ c. c.class < length tags.now) decided.now }
+    requires whole { IsWhole (length reading.now.heads) reading.now }
+    requires bases { length bases.now ≡ length reading.now.sums }
+    ensures { IsTrue result →
+        IsAgainstUpTo sig.now heads.now reading.now bases.now decided.now tags.now }
+{
+    if go_against(sig, decided, heads, tags) {
+        return true;
+    }
+    leave_homeless(decided, tags, reading, bases)
+}
+
+/// The first place at which the tags of the shared classes up to it go against what is known, whatever the tags of the
+/// later ones.
+pub(crate) fn first_against(
+    sig: &Signature,
+    heads: &[Option<OpId>],
+    reading: &Reading,
+    bases: &[Seq<Solution>],
+    shared: &[SharedClass],
+    tags: &[Option<OpId>],
+) -> Option<usize>
+    requires heads { All (λ c. c.class < length heads.now) shared.now }
+    requires tags { All (λ c. c.class < length tags.now) shared.now }
+    requires whole { IsWhole (length reading.now.heads) reading.now }
+    requires bases { length bases.now ≡ length reading.now.sums }
+    ensures { IfSome result
+        (IsAgainstAt sig.now heads.now reading.now bases.now shared.now tags.now) }
+{
+    for place in 0..shared.len() {
+        if are_against(sig, heads, reading, bases, &shared[..place + 1], tags) {
+            return Some(place);
+        }
+    }
+    None
 }

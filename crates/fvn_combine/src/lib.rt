@@ -5,6 +5,7 @@ mod against;
 mod combiner;
 mod effort;
 mod ending;
+mod homes;
 mod kinds;
 mod looking;
 mod opened;

@@ -12,7 +12,7 @@ ghost use Rattle.fvn_combine.specs.inner.Found.{AreDrawnFrom, IsSameButCurrent, 
 ghost use Rattle.fvn_combine.specs.Work.{leaf_left, left_at};
 ghost use Rattle.fvn_acunify_product.specs.Wheels.{choices_left};
 
-use crate::against::go_against;
+use crate::against::first_against;
 use crate::effort::Effort;
 use crate::opened::{Leaf, Opened, Turning};
 use crate::task::Task;
@@ -143,15 +143,20 @@ fn turn(task: &Task, state: &State, opened: &mut Opened) -> Result<bool, NoMemor
         opened.shared.as_slice(),
         options,
     )?;
-    if go_against(
+    match first_against(
         task.sig,
-        opened.shared.as_slice(),
         opened.known.heads.as_slice(),
+        &opened.reading,
+        opened.bases.as_slice(),
+        opened.shared.as_slice(),
         tags.as_slice(),
     ) {
-        opened.tags.advance();
-        opened.turning = None;
-        return Ok(true);
+        None => {}
+        Some(place) => {
+            opened.tags.skip(place);
+            opened.turning = None;
+            return Ok(true);
+        }
     }
     let wheels = wheels(
         task.alloc,

@@ -16,19 +16,18 @@ more_below P i h own k l = elim (cases_lt k i) [
       subst P is own
 ]
 
--- the operators so far, and one more
-pub more_operators : (P : ℕ → Sums → Type 0) (sums : List Sums) (i : ℕ) (item : Sums) → i < length sums → item ≡ get_or sums i item → ((k : ℕ) (e : Sums) → k < i → slice_get sums k ≡ Some e → P k e) → P i item → (k : ℕ) (e : Sums) → k < i + 1 → slice_get sums k ≡ Some e → P k e
-more_operators P sums i item l at h own k e b is = elim (cases_lt k i) [
-  | inl below ↦ h k e below is
-  | inr above ↦
-      let here : i ≡ k = omega arith in
-      let same : item ≡ e = at ∙ Some-injective (sym (slice_get-get_or sums i item l) ∙ ap (slice_get sums) here ∙ is) in
-      subst₂ P here same own
+-- one more number, from the last one down
+pub more_above : (P : ℕ → Type 0) (n step k : ℕ) → k + step + 1 ≡ n → ((j : ℕ) → j < n → n ≤ j + step → P j) → P k → (j : ℕ) → j < n → n ≤ j + (step + 1) → P j
+more_above P n step k is h own j l m = elim (cases_lt k j) [
+  | inl above ↦ h j l (omega (arith, is, above))
+  | inr below ↦
+      let same : k ≡ j = omega (arith, is, below, m) in
+      subst P same own
 ]
 
--- all operators
-pub all_operators : (P : ℕ → Sums → Type 0) (sums : List Sums) (i : ℕ) → length sums ≤ i → ((k : ℕ) (e : Sums) → k < i → slice_get sums k ≡ Some e → P k e) → (k : ℕ) (e : Sums) → slice_get sums k ≡ Some e → P k e
-all_operators P sums i l h k e is = h k e (let b = slice_get_within sums k e is in omega (arith, b, l)) is
+-- what holds of the operator at a place holds of each that stands there
+pub at_operator : (P : Sums → Type 0) (sums : List Sums) (i : ℕ) (item : Sums) → i < length sums → item ≡ get_or sums i item → P item → (e : Sums) → slice_get sums i ≡ Some e → P e
+at_operator P sums i item l at own e is = subst P (at ∙ Some-injective (sym (slice_get-get_or sums i item l) ∙ is)) own
 
 -- the solutions at a place, as they are read
 pub basis_at : (bases : List (List Solution)) (i : ℕ) (x ys : List Solution) → i < length bases → x ≡ get_or bases i x → ys ≡ x → get_or bases i [] ≡ ys

@@ -2,6 +2,7 @@
 #![tactic(auto)]
 
 mod asking;
+mod backwards;
 mod constants;
 mod identities;
 mod standing;

@@ -21,6 +21,7 @@ ghost use Rattle.fvn_combine_questions.specs.inner.Touched.{
   AreAllPast,
 };
 
+use crate::backwards::backwards;
 use crate::standing::{has_other_head, have_two_heads, may_be_constant};
 use fvn_base::Seq;
 use fvn_combine_leaves::{Reading, Sums, is_user};
@@ -156,7 +157,8 @@ fn open_column(
     None
 }
 
-// A question whether two classes are one that the solution has and that may be constants of the operator.
+// A question whether two classes are one that the solution has and that may be constants of the operator: the last
+// columns first.
 fn open_solution(
     state: &State,
     reading: &Reading,
@@ -174,7 +176,9 @@ fn open_solution(
         return None;
     }
     let n = state.names.len();
-    for i in 0..sums.columns.len() {
+    let count = sums.columns.len();
+    for step in 0..count {
+        let i = backwards(count, step);
         if !stands(reading, n, sums, v, i) {
             continue;
         }
@@ -210,7 +214,7 @@ fn open_solutions(
 }
 
 // A question whether two classes are one that may be constants of one operator, and that one of its
-// solutions has both of.
+// solutions has both of: the last operators first.
 pub(crate) fn open_touched(
     state: &State,
     reading: &Reading,
@@ -224,7 +228,8 @@ pub(crate) fn open_touched(
         (AreAllPast reading.now state.now reading.now.sums bases.now) result }
 {
     let sums = reading.sums.as_slice();
-    for i in 0..sums.len() {
+    for step in 0..sums.len() {
+        let i = backwards(sums.len(), step);
         match open_solutions(state, reading, &sums[i], bases[i].as_slice()) {
             None => {}
             Some(pair) => return Some(pair),

@@ -161,7 +161,7 @@ module _ {d : Declarations} {given : Pairs} {first : ℕ} {t : NodeTable} {s : S
 
     some_members : (k : ℕ) → IsBound d t (class_of s) (tag_in tags) e.operator k → HasNoIdentity (axioms d e.operator) → members e.columns (map part_of (slice_index_or all i [])) k ≢ []
     some_members k bound bare none =
-        let n = (m.leaf.possible.acceptable e.operator (entry_operator m.leaf i e at)).filled k (record { bound = bound; why = inr bare }) in
+        let n = (m.leaf.possible.acceptable e.operator (entry_operator m.leaf i e at)).filled k (record { bound = bound; why = inl bare }) in
         let c = count_is k in
         let some = some_above (λ (p : Share). component e.columns p.solution k) (slice_index_or all i []) (omega (arith, n, c)) in
         let p = some.0 in

@@ -444,6 +444,7 @@ impl<'a> Apart<'a> {
 
 // Whether what was bound leaves it open that the pattern makes the target, which is asked where a free operator
 // heads the pattern.
+#[inline(never)]
 pub(crate) fn may_make(
     alloc: Global,
     sig: &Signature,

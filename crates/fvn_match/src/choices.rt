@@ -15,6 +15,7 @@ pub(crate) fn total(ns: &[usize]) -> usize
 }
 
 // A number of zeros.
+#[inline(never)]
 pub(crate) fn zeros(alloc: Global, n: usize) -> Result<Vec<usize>, NoMemory>
     ensures { IfOk result (λ all. all.items ≡ replicate n 0) }
 {
@@ -26,6 +27,7 @@ pub(crate) fn zeros(alloc: Global, n: usize) -> Result<Vec<usize>, NoMemory>
 }
 
 // How often each number holds another.
+#[inline(never)]
 pub(crate) fn quotients(alloc: Global, ns: &[usize], k: usize) -> Result<Vec<usize>, NoMemory>
     requires { 1 ≤ k }
     ensures { IfOk result (λ all. all.items ≡ quotients k ns.now) }
@@ -38,6 +40,7 @@ pub(crate) fn quotients(alloc: Global, ns: &[usize], k: usize) -> Result<Vec<usi
 }
 
 // What is left of the numbers after a choice was taken a number of times.
+#[inline(never)]
 pub(crate) fn reduced(
     alloc: Global,
     k: usize,
@@ -62,6 +65,7 @@ fn may_rise(n: usize, limit: usize, together: usize, room: usize) -> bool
 }
 
 // The next choice within the limits that leaves room.
+#[inline(never)]
 pub(crate) fn advanced(chosen: Vec<usize>, limits: &[usize], room: usize) -> Option<Vec<usize>>
     requires long { length chosen.items ≡ length limits.now }
     requires small { sum chosen.items < 2 ^ 64 }

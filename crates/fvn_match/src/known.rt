@@ -53,6 +53,7 @@ fn is_new(p: &Flat, bound: &Bound<'_>, newest: usize, first: bool) -> bool {
 }
 
 // Whether some pattern of a sum is known, which was not when it was looked at last.
+#[inline(never)]
 pub(crate) fn has_known(goal: &SumGoal<'_>, bound: &Bound<'_>, seen: usize) -> bool {
     let newest = seen.saturating_sub(goal.seen);
     let first = goal.seen == 0;
@@ -76,6 +77,7 @@ fn copied(alloc: Global, ns: &[usize]) -> Result<Vec<usize>, NoMemory>
 }
 
 // The patterns that are not known, and what the others leave of the pieces, if they are among these.
+#[inline(never)]
 pub(crate) fn without_known<'a>(
     alloc: Global,
     sig: &Signature,

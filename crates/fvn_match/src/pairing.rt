@@ -54,6 +54,7 @@ pub(crate) fn has_sort_of(sig: &Signature, x: Var, t: &Flat) -> bool
 const MANY: usize = 6;
 
 // Whether the target's sort is none of an instance of the pattern, which is asked where the pattern is a sum of many.
+#[inline(never)]
 pub(crate) fn lacks_sort(sig: &Signature, p: &Flat, t: &Flat) -> bool
     requires { IsPair sig.now p.now t.now }
     ensures { IsTrue result → LacksSort sig.now p.now t.now }

@@ -271,6 +271,7 @@ fn lacks_some(sig: &Signature, goal: &SumGoal<'_>) -> bool
 }
 
 // Whether counting tells that the patterns make no sum of the pieces.
+#[inline(never)]
 pub(crate) fn is_hopeless(sig: &Signature, goal: &SumGoal<'_>) -> bool
     requires { SumFits sig.now goal.now }
     ensures { IsTrue result → IsHopeless sig.now goal.now }

@@ -45,8 +45,9 @@ pub(crate) struct Search<'s> {
     pub(crate) depth: usize,
 }
 
-// So many pairs may be chosen for one within another; each takes stack.
-const DEEPEST: usize = 2_000;
+// So many pairs and groups of summands may be chosen for one within another; each takes stack. A sum of variables on a
+// left side has fewer.
+const DEEPEST: usize = 210;
 
 impl Search<'_> {
     // Pairs in their order, and when there are none left, sums.
@@ -227,6 +228,7 @@ impl Search<'_> {
 
     // The value of a variable, then other goals.
     #[cycle(search)]
+    #[inline(never)]
     fn variable<'x>(
         &self,
         x: Var,
@@ -259,6 +261,7 @@ impl Search<'_> {
 
     // Two pairs place by place, or else crosswise, then other goals.
     #[cycle(search)]
+    #[inline(never)]
     fn either<'x>(
         &self,
         ps: &'x [Flat],
@@ -318,6 +321,7 @@ impl Search<'_> {
 
     // Other goals, then the summands of a pair.
     #[cycle(search)]
+    #[inline(never)]
     fn summed(
         &self,
         f: OpId,
@@ -353,6 +357,7 @@ impl Search<'_> {
 
     // A sum without what is known of it, then other sums.
     #[cycle(search)]
+    #[inline(never)]
     fn sum(
         &self,
         goal: &SumGoal<'_>,
@@ -421,6 +426,7 @@ impl Search<'_> {
 
     // Each choice of summands in turn for the first pattern of a sum, then what is left.
     #[cycle(search)]
+    #[inline(never)]
     fn choose_any(
         &self,
         goal: &SumGoal<'_>,

@@ -79,6 +79,7 @@ fn run(ts: &[Flat]) -> usize
 }
 
 // The different terms of a list in order, with their numbers.
+#[inline(never)]
 pub(crate) fn count_pieces<'a>(alloc: Global, ts: &'a [Flat]) -> Result<Counted<'a>, NoMemory>
     requires { InOrder ts.now }
     ensures { IfOk result (IsCounted ts.now) }
@@ -96,6 +97,7 @@ pub(crate) fn count_pieces<'a>(alloc: Global, ts: &'a [Flat]) -> Result<Counted<
 }
 
 // References to the terms of a list, the last first.
+#[inline(never)]
 pub(crate) fn reversed<'a>(alloc: Global, ts: &'a [Flat]) -> Result<Vec<&'a Flat>, NoMemory>
     ensures { IfOk result (λ all. references all.items ≡ reverse ts.now) }
 {

@@ -67,6 +67,7 @@ fn empty_sum(alloc: Global, sig: &Signature, goal: &SumGoal<'_>) -> Result<Optio
 }
 
 // The sum of the chosen pieces; without pieces the identity, if there is one.
+#[inline(never)]
 pub(crate) fn whole(
     alloc: Global,
     sig: &Signature,
@@ -201,6 +202,7 @@ pub(crate) fn is_single(sig: &Signature, f: OpId, p: &Flat) -> bool
 }
 
 // How many of the pieces the first pattern may have at most.
+#[inline(never)]
 pub(crate) fn room(sig: &Signature, goal: &SumGoal<'_>, p: &Flat, k: usize) -> usize
     requires fits { SumFits sig.now goal.now }
     requires group { IsGroup sig.now goal.now p.now k }

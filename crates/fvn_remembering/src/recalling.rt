@@ -1,5 +1,5 @@
 //! Answers that are told again, or else found and kept.
-ghost use Rattle.std.specs.Prelude.{◌≡◌, ◌↔◌, IsTrue, IfOk, IfSome};
+ghost use Rattle.std.specs.Prelude.{◌≡◌, ◌↔◌, length, IsTrue, IfOk, MatchOption};
 ghost use Rattle.fvn_flat.specs.Solving.{IsGiven};
 ghost use Rattle.fvn_flat.specs.declared.solver.SolveEnd.TheVariants.{Complete};
 ghost use Rattle.fvn_remembering.specs.Answers.{pair_of, IsAnswer, HoldsAnswersOf};
@@ -16,7 +16,8 @@ use std::alloc::Global;
 
 // The two forms, where the problem is of one pair.
 fn one_pair(problem: &Pairs) -> Option<(&Flat, &Flat)>
-    ensures { IfSome result (λ p. problem.now ≡ pair_of p.0.now p.1.now) }
+    ensures { MatchOption result (length problem.now.pairs ≡ 1 → ⊥)
+        (λ p. problem.now ≡ pair_of p.0.now p.1.now) }
 {
     let pairs = problem.pairs.as_slice();
     if pairs.len() != 1 {

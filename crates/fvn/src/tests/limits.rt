@@ -174,11 +174,12 @@ vunify | a =? a ==> 3 | module 13 equation 1
 verify | a =? a | {} ==> 3 | module 13 equation 1
 terminates | g : 1 1 ==> 3 | module 13 equation 1";
 
-/// Modules, and under each commands with words at a limit and one beyond, and what is printed of these. Parentheses have no
-/// limit. The limits are: symbols of a problem and of a term, 400; of a bound term and of what is made, 1,000; minimal
-/// solutions, 24, and numbers in them over 65,535; steps, levels and variants; bytes of a module. Over the last module one
-/// unifier has terms of 511 symbols and fewer, each twice the next; two have a sum of such terms, of 999 symbols and of
-/// 1,001; one has a term of 1,023; and one binds twenty variables.
+/// Modules, and under each commands with words at a limit and one beyond, and what is printed of these. Parentheses have
+/// no limit. The limits are: symbols of a problem and of a term, 400; of a bound term and of what is made, 1,000; minimal
+/// solutions, 24, and numbers in them over 65,535; choices of a match one within another, 209, as 69 sums have, and as
+/// many summands as a left side may have; steps, levels and variants; bytes of a module. Over the last module one unifier
+/// has terms of 511 symbols and fewer, each twice the next; two have a sum of such terms, of 999 symbols and of 1,001;
+/// one has a term of 1,023; and one binds twenty variables.
 const QUESTIONS: &str = "\
 fmod FREE is
   sort S .
@@ -244,6 +245,15 @@ variants | f(X) ==> 5 | f(#1:S) {X:S --> #1:S} | g(#1:S) {X:S --> p(#1:S,#1:S,#1
 
 fmod WIDE is sort S . op a : -> S . ops f g h : S -> S . op p : S S S -> S . vars X Y Z : S . eq f(p(X,X,X)) = g(X) [variant] . eq g(~333%h(~a~333%)~) = a [variant] . eq p(h(X),Y,Z) = a [variant] . endfm <=
 variants | f(X) ==> 0 | f(#1:S) {X:S --> #1:S} | g(#1:S) {X:S --> p(#1:S,#1:S,#1:S)} | complete 2
+
+fmod WIDEST is sort S . ops a b : -> S . op f : S -> S . op _+_ : S S -> S [assoc comm] . eq f(_+_(~198%X@:S,~X:S)) = a [variant] . endfm <=
+verify | f(Y:S) =? a | {Y:S --> _+_(~199%a,~b)} ==> 0 | yes
+
+fmod NESTED is sort S . op a : -> S . ops f g : S -> S . op _+_ : S S -> S [assoc comm] . eq f(~69%_+_(X@:S,g(~V:S~69%))~) = a [variant] . endfm <=
+verify | f(Y:S) =? a | {Y:S --> ~69%_+_(a,g(~a~69%))~} ==> 0 | yes
+
+fmod NESTED is sort S . op a : -> S . ops f g : S -> S . op _+_ : S S -> S [assoc comm] . eq f(~70%_+_(X@:S,g(~V:S~70%))~) = a [variant] . endfm <=
+verify | f(Y:S) =? a | {Y:S --> ~70%_+_(a,g(~a~70%))~} ==> 8 | nothing
 
 fmod PLUS is sort Nat . op 0 : -> Nat . op s : Nat -> Nat . op + : Nat Nat -> Nat . vars X Y : Nat . eq +(0,Y) = Y [variant] . eq +(s(X),Y) = s(+(X,Y)) [variant] . endfm <=
 variants | +(s(s(s(0))),0) | --steps | 4 ==> 0 | s(s(s(0))) {} | complete 1

@@ -1,11 +1,14 @@
 -- Tags that go against what is known of the values of classes.
-use Rattle.std.specs.Prelude.{◌≡◌, ◌≢◌, List, slice_index_or, Option, Some, None, Contains}
+use Rattle.std.specs.Prelude.{◌≡◌, ◌≢◌, ◌⊎◌, ℕ, ◌+◌, ◌<◌, List, length, take, slice_index_or, Option, Some, None, Any, Contains}
 use Rattle.fvn_terms.specs.declared.plain.OpId.{OpId}
 use Rattle.fvn_terms.specs.declared.declarations.Declarations.{Declarations}
 use Rattle.fvn_terms.specs.Signature.{axioms}
+use Rattle.fvn_lindio.specs.declared.system.Solution.{Solution}
 use Rattle.fvn_flat.specs.Partitions.{HasNoIdentity}
+use Rattle.fvn_combine_leaves.specs.declared.reading.Reading.{Reading}
 use Rattle.fvn_combine_drawing.specs.CombineAdmissibleListed.{tag_in}
 use Rattle.fvn_combine_drawing.specs.CombineCandidatesDeclared.sharing.SharedClass.{SharedClass}
+use Rattle.fvn_combine.specs.inner.Homes.{LeaveHomeless}
 
 -- an operator with an identity that uses the class is noted as what heads its value, and is not its tag
 pub record IsAgainst (d : Declarations) (heads tags : List (Option OpId)) (c : SharedClass) : Type 0 where
@@ -14,3 +17,13 @@ pub record IsAgainst (d : Declarations) (heads tags : List (Option OpId)) (c : S
   pub some : HasNoIdentity (axioms d head) → ⊥
   pub user : Contains c.users head
   pub other : tag_in tags c.class ≢ Some head
+
+module _ (d : Declarations) (heads : List (Option OpId)) (r : Reading) (bases : List (List Solution)) where
+  -- so it is with one of the shared classes whose tags are decided, or these tags leave one without a home
+  abbrev pub IsAgainstUpTo : List SharedClass → List (Option OpId) → Type 0
+  IsAgainstUpTo decided tags = Any (IsAgainst d heads tags) decided ⊎ LeaveHomeless decided tags r bases
+
+  -- so it is with those up to the place
+  pub record IsAgainstAt (shared : List SharedClass) (tags : List (Option OpId)) (place : ℕ) : Type 0 where
+    pub within : place < length shared
+    pub against : IsAgainstUpTo (take (place + 1) shared) tags

@@ -1,17 +1,18 @@
--- The next tags are made the current ones, or passed over.
-use Rattle.std.proofs.Common.{◌≡◌, ◌<◌, List, length, sym, ap, ◌∙◌, subst, Option, All, Any}
+-- The next tags are made the current ones, or passed over with all that agree with them up to a place.
+use Rattle.std.proofs.Common.{◌≡◌, ◌<◌, List, length, sym, ap, ◌∙◌, subst, Option, All}
 use Rattle.std.proofs.Math.Nat.{le_trans}
 use Rattle.fvn_terms.specs.declared.plain.OpId.{OpId}
+use Rattle.fvn_lindio.specs.declared.system.Solution.{Solution}
 use Rattle.fvn_combine_nodes.specs.States.{class_of}
 use Rattle.fvn_combine_drawing.specs.CombineAdmissibleListed.{tag_in}
 use Rattle.fvn_combine_drawing.specs.CombineCandidatesTags.{AreTags}
 use Rattle.fvn_combine_drawing.specs.CombineCandidatesDeclared.sharing.SharedClass.{SharedClass}
 use Rattle.fvn_combine_drawing.specs.CombineCandidatesTurning.{AreWheels, HaveBounds}
 use Rattle.fvn_combine.specs.Tasks.{Combining}
-use Rattle.fvn_combine.specs.inner.Against.{IsAgainst}
+use Rattle.fvn_combine.specs.inner.Against.{IsAgainstAt}
 use Rattle.fvn_combine.proofs.Less.{few_numbers}
 use Rattle.fvn_combine.proofs.Turned.{turned}
-use Rattle.fvn_combine.proofs.PassedTags.{classes_within, passed}
+use Rattle.fvn_combine.proofs.PassedTags.{classes_within, whole_of, place_within, passed}
 use Rattle.fvn_combine.proofs.walking.turn.Goals as goal
 
 pub returns-clause-turned : goal.returns-clause-turned
@@ -20,36 +21,46 @@ returns-clause-turned c =
     let wheels = c.in_ok-wheels.wheels in
     let are = subst (AreTags o.shared c.in-Some.options.now) (sym c.from_vec.ensures) (subst (λ shared. AreTags shared c.in-Some.options.now c.in_ok-tags.tags.items) c.as_slice.ensures c.in_ok-tags.ensures.exact) in
     let asked = subst (λ (k : Combining). AreWheels k.declarations k.table (class_of c.args.state.now) (tag_in c.from_vec.result) o.reading.sums o.bases wheels.wheels) c.task.view_is
-    (subst (λ l. AreWheels c.task.inside.sig.now c.task.inside.table (class_of c.args.state.now) (tag_in l) o.reading.sums o.bases wheels.wheels) (c.as_slice-6.ensures.value ∙ sym c.from_vec.ensures)
-    (subst (λ b. AreWheels c.task.inside.sig.now c.task.inside.table (class_of c.args.state.now) (tag_in c.as_slice-6.result.now) o.reading.sums b wheels.wheels) c.as_slice-5.ensures c.in_ok-wheels.ensures.asked)) in
+    (subst (λ l. AreWheels c.task.inside.sig.now c.task.inside.table (class_of c.args.state.now) (tag_in l) o.reading.sums o.bases wheels.wheels) (c.as_slice-7.ensures.value ∙ sym c.from_vec.ensures)
+    (subst (λ b. AreWheels c.task.inside.sig.now c.task.inside.table (class_of c.args.state.now) (tag_in c.as_slice-7.result.now) o.reading.sums b wheels.wheels) c.as_slice-6.ensures c.in_ok-wheels.ensures.asked)) in
     let bounds = subst (λ (k : Combining). HaveBounds k.declarations k.table (class_of c.args.state.now) k.sorted o.reading.sums wheels.wheels) c.task.view_is c.in_ok-wheels.ensures.bounds in
     turned c.args.task.now c.recall.ensures c.listed_choices_are_possible.ensures c.sorted_choices_are_within.ensures c.args.state.now o c.requires.opened c.from_vec.result c.in-Some.options.now are wheels asked bounds c.in_ok-wheels.ensures.all_pending
-    c.advance-2.new.self c.advance-2.ensures.counts c.in-Some.ensures.value c.advance-2.ensures.taken (c.advance-2.ensures.falls c.in-Some.options.now c.in-Some.ensures.value)
+    c.advance.new.self c.advance.ensures.counts c.in-Some.ensures.value c.advance.ensures.taken (c.advance.ensures.falls c.in-Some.options.now c.in-Some.ensures.value)
     (le_trans c.in_ok-wheels.ensures.bounded
     (few_numbers c.args.task.now c.sum_operators_are_few.ensures c.args.state.now o.reading c.requires.opened.reading o.bases c.requires.opened.bases (tag_in c.from_vec.result) wheels.wheels asked))
 
-pub go_against-requires : goal.go_against-requires
-go_against-requires c =
+pub first_against-requires : goal.first_against-requires
+first_against-requires c =
     let k = c.args.task.now in
     let s = c.args.state.now in
     let o = c.args.opened.now in
     let nodes = subst (λ (k : Combining). length c.nodes.result.now ≡ length k.table.nodes) c.task.view_is (ap length c.nodes.ensures) in
     record {
-      heads = subst (All (λ (e : SharedClass). e.class < length c.as_slice-3.result.now)) (sym c.as_slice-2.ensures)
-          (classes_within k s o c.requires.opened (length c.as_slice-3.result.now) (ap length c.as_slice-3.ensures.value ∙ c.requires.opened.known.as_many));
-      tags = subst (All (λ (e : SharedClass). e.class < length c.as_slice-4.result.now)) (sym c.as_slice-2.ensures)
-          (classes_within k s o c.requires.opened (length c.as_slice-4.result.now) (ap length c.as_slice-4.ensures.value ∙ c.in_ok-tags.ensures.as_many ∙ nodes));
+      heads = subst (All (λ (e : SharedClass). e.class < length c.as_slice-2.result.now)) (sym c.as_slice-4.ensures)
+          (classes_within k s o c.requires.opened (length c.as_slice-2.result.now) (ap length c.as_slice-2.ensures.value ∙ c.requires.opened.known.as_many));
+      tags = subst (All (λ (e : SharedClass). e.class < length c.as_slice-5.result.now)) (sym c.as_slice-4.ensures)
+          (classes_within k s o c.requires.opened (length c.as_slice-5.result.now) (ap length c.as_slice-5.ensures.value ∙ c.in_ok-tags.ensures.as_many ∙ nodes));
+      whole = whole_of k s o c.requires.opened c.recall.ensures;
+      bases = ap length c.as_slice-3.ensures ∙ c.requires.opened.bases.as_many;
     }
 
-pub returns-then-go_against-clause-turned : goal.returns-then-go_against-clause-turned
-returns-then-go_against-clause-turned c =
+pub skip-requires : goal.skip-requires
+skip-requires c = record {
+  within = place_within c.args.task.now c.args.state.now c.args.opened.now c.requires.opened c.in-Some-first_against.place
+      (subst (λ (l : List SharedClass). c.in-Some-first_against.place < length l) c.as_slice-4.ensures c.in-Some-first_against.ensures.within);
+}
+
+pub returns-in-Some-first_against-clause-turned : goal.returns-in-Some-first_against-clause-turned
+returns-in-Some-first_against-clause-turned c =
     let o = c.args.opened.now in
     let tags = c.in_ok-tags.tags.items in
     let are = subst (λ shared. AreTags shared c.in-Some.options.now tags) c.as_slice.ensures c.in_ok-tags.ensures.exact in
-    let against = subst (λ (k : Combining). Any (IsAgainst k.declarations o.known.heads.items tags) o.shared) c.task.view_is
-    (subst (Any (IsAgainst c.task.inside.sig.now o.known.heads.items tags)) c.as_slice-2.ensures
-    (subst (λ (l : List (Option OpId)). Any (IsAgainst c.task.inside.sig.now l tags) c.as_slice-2.result.now) c.as_slice-3.ensures.value
-    (subst (λ (l : List (Option OpId)). Any (IsAgainst c.task.inside.sig.now c.as_slice-3.result.now l) c.as_slice-2.result.now) c.as_slice-4.ensures.value
-    (c.go_against.ensures c.if-go_against.true)))) in
-    passed c.args.task.now c.args.state.now o c.requires.opened tags against c.in-Some.options.now are c.advance.new.self c.advance.ensures.counts c.in-Some.ensures.value c.advance.ensures.taken
-    (c.advance.ensures.falls c.in-Some.options.now c.in-Some.ensures.value)
+    let place = c.in-Some-first_against.place in
+    let against = subst (λ (k : Combining). IsAgainstAt k.declarations o.known.heads.items o.reading o.bases o.shared tags place) c.task.view_is
+    (subst (λ (l : List SharedClass). IsAgainstAt c.task.inside.sig.now o.known.heads.items o.reading o.bases l tags place) c.as_slice-4.ensures
+    (subst (λ (l : List (Option OpId)). IsAgainstAt c.task.inside.sig.now l o.reading o.bases c.as_slice-4.result.now tags place) c.as_slice-2.ensures.value
+    (subst (λ (l : List (List Solution)). IsAgainstAt c.task.inside.sig.now c.as_slice-2.result.now o.reading l c.as_slice-4.result.now tags place) c.as_slice-3.ensures
+    (subst (λ (l : List (Option OpId)). IsAgainstAt c.task.inside.sig.now c.as_slice-2.result.now o.reading c.as_slice-3.result.now c.as_slice-4.result.now l place) c.as_slice-5.ensures.value
+    c.in-Some-first_against.ensures)))) in
+    passed c.args.task.now c.args.state.now o c.requires.opened c.recall.ensures c.in-Some.options.now c.in-Some.ensures.greatest.0 tags are place against
+    c.skip.new.self c.skip.ensures.counts c.in-Some.ensures.value c.skip.ensures.taken c.skip.ensures.kept (c.skip.ensures.falls c.in-Some.options.now c.in-Some.ensures.value)

@@ -2,7 +2,7 @@
 use Rattle.std.proofs.Common.{◌≡◌, not, Some, None, sym, ap, ◌∙◌}
 use Rattle.std.proofs.lemmas.Bool.{eq-eqb, false≢true}
 use Rattle.fvn_terms.specs.declared.plain.OpId.{OpId}
-use Rattle.fvn_combine.proofs.against.is_other.Goals as goal
+use Rattle.fvn_combine.proofs.homes.is_other.Goals as goal
 
 pub returns-in-None : goal.returns-in-None
 returns-in-None c t = λ i. let e : None ≡ Some c.args.g = sym c.in-None.is ∙ i in cc
