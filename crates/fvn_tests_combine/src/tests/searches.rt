@@ -1,5 +1,5 @@
 //! Problems with how far the search for their unifiers may go.
-use super::unifiers::{BAGS, OPERATORS, WITH_ELEMENTS, assert_rows};
+use super::unifiers::{BAGS, OPERATORS, RINGS, WITH_ELEMENTS, assert_rows};
 use fvn_terms::NoMemory;
 
 // A problem; how many states the search for its unifiers on kinds asks, and how many choices it tries, at most.
@@ -46,7 +46,7 @@ search A0 = A1 o h l; A1 = A2 f m; A2 = A0 f l => few | 1 0
 search A0 A1 l A2 m = A0 A2 l A1 m => few | 30 12
 search A0 A1 l A2 m A0 l = A2 A1 l A0 m A1 l => few | 57 8
 search A0 A1 k h A2 l = f h h A3 l => few | 2 1
-search A0 A1 k = A2 f k; A0 A3 l = A4 f l => few | 5 13
+search A0 A1 k = A2 f k; A0 A3 l = A4 f l => few | 3 11
 search A0 A1 l A2 m A3 l = f => few | 13 10";
 
 // The same over sums that are not neutral, with elements: an element is one summand at most. Six elements are split in
@@ -69,15 +69,27 @@ search A0 A1 t = B2 => few | 1 1
 search B0 B1 t = g h t => few | 1 4
 search B0 B1 t = A2 A3 t A4 t A5 t A6 t A7 t => few | 1 64";
 
-// Two sums of one sort with different identities, f and g.
-const RINGS: &str =
-    "A; f : -> A; g : -> A; h : A A -> A [assoc comm id: f]; i : A A -> A [assoc comm id: g]";
-
-// The same over these, where nearly every class is added by both.
-const SEARCHED_OF_RINGS: &str =
-    "search A0 A1 h A2 A3 h i A0 i = A0 A2 h A1 A3 h i A1 i => few | 810 71
-search A0 A1 i A2 h A3 i = A2 A3 i A0 h A1 i => few | 346 59
-search A0 A1 A2 i h A1 A0 A3 i h i = A2 A3 i => few | 319 119";
+// The same over two sums with different identities, where nearly every class is added by both: it is asked of none
+// whether it is an identity. First families where each size has one summand more: such a class is asked only whether it
+// is the constant, so that each adds two states, and nothing where there is none, so that there are as many choices as
+// unifiers. Then problems where a class is a summand of its own factor, or of the other side's.
+const SEARCHED_OF_RINGS: &str = "search A0 A0 h A1 i = A2 j i => few | 3 1
+search A0 A0 h A1 A1 h A2 i i = A3 j i => few | 5 1
+search A0 A0 h A1 A1 h A2 A2 h A3 i i i = A4 j i => few | 7 1
+search A0 A0 h A1 A1 h A2 A2 h A3 A3 h A4 i i i i = A5 j i => few | 9 1
+search A0 A0 h A1 i = A2 A3 i => few | 1 2
+search A0 A0 h A1 A1 h A2 i i = A3 A4 i => few | 1 4
+search A0 A0 h A1 A1 h A2 A2 h A3 i i i = A4 A5 i => few | 1 8
+search A0 A0 h A1 A1 h A2 A2 h A3 A3 h A4 i i i i = A5 A6 i => few | 1 16
+search A0 A0 h = A1 A1 i => few | 1 0
+search A0 A1 h A2 i = A3 A4 i => few | 1 8
+search A0 A1 h = A0 A2 i => few | 3 5
+search A0 A1 h A0 i = A1 => few | 7 3
+search A0 A1 h A0 i = A2 A3 i => few | 3 23
+search A0 A1 h A2 i = A0 A2 h A1 i => few | 10 27
+search A0 A1 h A2 A3 h i A0 i = A0 A2 h A1 A3 h i A1 i => few | 129 147
+search A0 A1 i A2 h A3 i = A2 A3 i A0 h A1 i => few | 68 128
+search A0 A1 A2 i h A1 A0 A3 i h i = A2 A3 i => few | 85 113";
 
 #[test]
 fn searches_stay_short(rt: HostRuntime) -> Result<(), NoMemory> {

@@ -21,6 +21,10 @@ pub const WITH_ELEMENTS: &str =
 pub const BAGS: &str =
     "A B; A < B; f : -> B; g : -> A; h : -> A; i : -> A; j : -> A; k : -> A; l : -> A; m : -> A; n : -> A; o : -> A; p : -> A; q : -> A; r : -> A; s : -> A; t : B B -> B [assoc comm id: f]";
 
+/// One sort A; constants f, g and j, sums h and k with the identity f, and a sum i with the identity g.
+pub const RINGS: &str =
+    "A; f : -> A; g : -> A; h : A A -> A [assoc comm id: f]; i : A A -> A [assoc comm id: g]; j : -> A; k : A A -> A [assoc comm id: f]";
+
 // Numbers of unifiers and of symbols at which a solver stops, and a problem; how the solver ends with it and how many
 // unifiers it gives; then terms over the problem's variables, each with what a known unifier makes of it.
 //
@@ -187,6 +191,32 @@ const SOLVED_OF_BAGS: &str = "100 200 A0 B1 t = g => complete 1
 100 200 A0 A1 t = B2 => complete 1
 100 200 B0 B1 t = g h t => complete 4";
 
+// The same over sums with different identities, first over two: a class that both use may be the identity of either. Then
+// over all three, where it may be the one that two of them have.
+const SOLVED_OF_RINGS: &str = "100 200 A0 A1 h A2 i = j => complete 4
+100 200 A0 A1 h A2 i = A0 => complete 2
+100 200 A0 A1 h A0 i = A1 => complete 0
+100 200 A0 A0 h = A1 A1 i => complete 0
+100 200 A0 A1 h = A0 A2 i => complete 3
+100 200 A0 A1 h A0 i = A2 A3 i => complete 5
+100 200 A0 A1 h A2 i = A3 A4 i => complete 4
+100 200 A0 A1 h A2 i = A0 A2 h A1 i => complete 2
+100 200 A0 A1 i A2 h = A3 j h => complete 3
+100 200 A0 A1 h = g; A0 A1 i = f => complete 2
+100 200 A0 A0 h A1 A1 h A2 A2 h A3 i i i = A4 j i => complete 1
+100 200 A0 A0 h A1 A1 h A2 A2 h A3 i i i = A4 A5 i => complete 8
+100 200 A0 A1 h A2 A3 h i A0 i = A0 A2 h A1 A3 h i A1 i => complete 2
+100 200 A0 A1 h = A0 A1 k => complete 2
+100 200 A0 A1 h = A0 A2 k => complete 2
+100 200 A0 A1 h = j; A0 A2 k = j; A0 A3 i = j => complete 1
+100 200 A0 A1 h = A0 A2 k; A0 A3 i = j => complete 2
+100 200 A0 A1 h A0 A2 k i = j => complete 2
+100 200 A0 A1 h A2 k A0 i = j => complete 0
+100 200 A0 A1 h A2 i = A0 A3 k A4 i => complete 3
+100 200 A0 A1 h A0 k A2 i = A0 j i => complete 4
+100 200 A0 A1 h A0 k = A2 A0 i => complete 2
+100 200 A0 A1 h A2 k = A0 A2 i => complete 1";
+
 /// What is shown of a row: of a search, where its text begins with this word, else of a solver.
 fn shown_row(alloc: Global, sig: &Signature, text: &str, known: &str) -> Result<String, NoMemory> {
     match text.strip_prefix("search ") {
@@ -218,5 +248,6 @@ pub fn assert_rows(
 fn problems_are_solved_within_limits(rt: HostRuntime) -> Result<(), NoMemory> {
     assert_rows(&rt, rt.alloc(), OPERATORS, SOLVED)?;
     assert_rows(&rt, rt.alloc(), WITH_ELEMENTS, SOLVED_WITH_ELEMENTS)?;
-    assert_rows(&rt, rt.alloc(), BAGS, SOLVED_OF_BAGS)
+    assert_rows(&rt, rt.alloc(), BAGS, SOLVED_OF_BAGS)?;
+    assert_rows(&rt, rt.alloc(), RINGS, SOLVED_OF_RINGS)
 }
