@@ -67,6 +67,22 @@ def against_constants(letters, count):
     return f"{over('__', letters)} =? {over('__', [f'c{i}' for i in range(1, count + 1)])}"
 
 
+def identities_in_one_another(count, other):
+    """So many sums with one identity, each of a variable with itself, below sums with another one."""
+    term = "X:S"
+    for i in range(1, count + 1):
+        term = f"_*_(_&_(V{i}:S, V{i}:S), {term})"
+    return f"{term} =? {other}"
+
+
+def known_parts(count):
+    """Commutative pairs with a constant beside a sum that has one, below a sum, so many times, against the like."""
+    left, right = "X:S", "Y:S"
+    for i in range(1, count + 1):
+        left, right = f"g(_+_(c({left}, a), _*_(a, V{i}:S)))", f"g(_+_(c({right}, a), _*_(a, B{i}:S)))"
+    return f"{left} =? {right}"
+
+
 FAMILIES = [
     ("2 against n", "sums", {n: sums(2, n) for n in range(2, 8)}),
     ("3 against n", "sums", {n: sums(3, n) for n in (2, 3)}),
@@ -99,6 +115,9 @@ FAMILIES = [
         2: "_*_(_+_(X:S, _*_(Y:S, Z:S)), _+_(Y:S, _*_(X:S, W:S))) =? _*_(Z:S, W:S)",
         3: "_*_(_+_(X:S, Y:S), _*_(_+_(Z:S, W:S), X:S)) =? _*_(_+_(X:S, Z:S), _*_(_+_(Y:S, W:S), Y:S))",
     }),
+    ("identities in one another", "identities", {n: identities_in_one_another(n, "_*_(Z:S, b)") for n in (3, 5, 7, 8)}),
+    ("identities in one another, two rests", "identities", {n: identities_in_one_another(n, "_*_(Z:S, Y:S)") for n in (3, 5, 6)}),
+    ("known parts", "identities", {n: known_parts(n) for n in (1, 2, 3)}),
     ("choices beside each other", "processes", {1: "_|_(_+_(_|_(P:P, Q:P), R:P), P:P) =? _|_(_+_(_|_(Q:P, R:P), P:P), R:P)"}),
     ("bags that are not empty", "fruit", {n: f"{over('_;_', variables('N', 3, 'Ne'))} =? {over('_;_', variables('F', n, 'Fruit'))}" for n in (3, 4, 5)}),
     ("places", "places", {
