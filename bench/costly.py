@@ -127,6 +127,14 @@ def doubles(n):
                   "op _+_ : S S -> S [assoc comm]", "eq %s = e [variant]" % total("_+_", names + names))
 
 
+SHARING = module("SHARING", "sort S", "ops a b c e : -> S", "ops f g h : S -> S", "op p : S S -> S", "op k : S S -> S [comm]",
+                 "op _+_ : S S -> S [assoc comm]", "op _*_ : S S -> S [assoc comm]",
+                 "eq f(_*_(p(Y1:S,k(a,Y2:S)),g(g(Z3:S)),_+_(Z4:S,Y4:S,Y4:S,X0:S,X3:S,Z2:S,X4:S,Z1:S),g(Z0:S),k(Z5:S,Y1:S),a,"
+                 "_+_(Y1:S,Z4:S,X3:S),g(Z4:S),b)) = e [variant]")
+SHARED = ("_*_(g(g(_*_(c,c))),b,p(k(c,c),k(g(c),a)),_+_(b,c,c,b,h(_*_(b,a,c)),h(b),_*_(b,b),k(a,a),_*_(k(c,a),h(b),p(b,b)),c,b),a,g(a),"
+          "_+_(c,h(_*_(b,a,c)),_*_(b,b)),k(k(c,c),h(a)),g(c))")
+
+
 def linear(n):
     return module("LINEAR", "sort S", "ops " + " ".join("c%d" % i for i in range(1, 31)) + " : -> S", "op e : -> S",
                   "op _+_ : S S -> S [assoc comm]", "eq %s = e [variant]" % total("_+_", ["X%d:S" % i for i in range(n)]))
@@ -217,6 +225,7 @@ ROWS = [
        lower(12), "reduce " + total("_+_", elements(0, n, k))) for n, k in ((11, 1), (11, 2), (13, 0), (12, 2))],
     ("verify, 24 variables in 30 elements", ["verify", total("_+_", ["c%d" % i for i in range(1, 31)]) + " =? X:S", "{X:S --> e}"],
      linear(24), "reduce " + total("_+_", ["c%d" % i for i in range(1, 31)])),
+    ("verify, sums that share variables", ["verify", "f(%s) =? e" % SHARED, "{}"], SHARING, "reduce f(%s)" % SHARED),
     ("verify, 262,143 steps", ["verify", "f(%s) =? a" % UNARY, "{}", "--steps", "1000000"], HALVES, "reduce f(%s)" % UNARY),
     ("verify, 1,000,000 steps", ["verify", "f(a) =? a", "{}", "--steps", "1000000"], LOOP, ""),
     ("variants, 200 levels", ["variants", "--levels", "200", "+(X:N,Y:N)"], PLUS, "get irredundant variants [401] +(X:N, Y:N)"),
