@@ -5,6 +5,11 @@
 use fvn_combine_drawing::SolvedSystems;
 use std::alloc::Global;
 
+// From how many states on a search asks of all shared classes whether they have identities. Until then tags that stand for
+// an identity too spare these questions, which part each state in two; where so many states did not do, most have no
+// unifier, and that is seen sooner of their parts.
+const MANY_STATES: u64 = 128;
+
 /// Sum systems that were solved, whether one was refused, how many states were asked, and how many choices were tried.
 #[derive(Drop)]
 pub(crate) struct Effort {
@@ -28,6 +33,11 @@ impl Effort {
     // One state more is asked.
     pub(crate) fn count_state(&mut self) {
         self.states = self.states.saturating_add(1);
+    }
+
+    // Whether many states were asked.
+    pub(crate) fn is_long(&self) -> bool {
+        self.states >= MANY_STATES
     }
 
     // One choice more is tried.

@@ -275,7 +275,7 @@ fn look_further(
     requires sorted { known.sorted ≡ task.now.sorted }
     ensures { IfOk result (IsLookedAt task.now state.now) }
 {
-    match first_question(task.sig, &task.table, state, &reading) {
+    match first_question(task.sig, &task.table, state, &reading, effort.is_long()) {
         Some((i, j)) => Ok(asked(task, state, &known, i, j)),
         None => {
             let looked = look_at_near_leaf(task, state, reading, known, effort)?;

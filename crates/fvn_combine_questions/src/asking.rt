@@ -18,12 +18,15 @@ use fvn_signature::Signature;
 /// bound to, whatever sums have in common; none where all that is left to ask is whether classes are one
 /// that may be constants of one operator.
 ///
-/// Commutative nodes come first, so that the classes are a partition before anything else is asked.
+/// Commutative nodes come first, so that the classes are a partition before anything else is asked. Whether a shared class
+/// has the identity of an operator that uses it has to be asked where another one has it too; with `all` it is asked of each,
+/// which parts a state sooner.
 pub fn first_question(
     sig: &Signature,
     table: &Table,
     state: &State,
     reading: &Reading,
+    all: bool,
 ) -> Option<(usize, usize)>
     requires closed { IsClosed sig.now table.now state.now }
     requires reading { IsReading sig.now table.now (class_of state.now) reading.now }
@@ -32,7 +35,7 @@ pub fn first_question(
     table.recall_well_made();
     match undecided(sig, table, state) {
         Some(pair) => Some(pair),
-        None => identity_question(sig, table, state, reading),
+        None => identity_question(sig, table, state, reading, all),
     }
 }
 

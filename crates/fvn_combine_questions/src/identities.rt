@@ -1,8 +1,8 @@
 //! Questions whether shared classes have identities.
-ghost use Rattle.std.specs.Prelude.{◌≡◌, ℕ, ◌<◌, length, All};
+ghost use Rattle.std.specs.Prelude.{◌≡◌, ℕ, ◌<◌, length, All, IsTrue};
 ghost use Rattle.fvn_combine_nodes.specs.States.{IsNaming};
 ghost use Rattle.fvn_combine_questions.specs.inner.Past.{IsOpenPairOr, IsPastIdentity, ArePastIdentities};
-ghost use Rattle.fvn_combine_leaves.specs.Users.{IsWholeSums, IsWhole, IsSharedIn};
+ghost use Rattle.fvn_combine_leaves.specs.Users.{IsWholeSums, IsWhole, IsSharedIn, HasTwinIn};
 
 use fvn_combine_leaves::{Reading, Sums, has_twin, is_shared, is_user};
 use fvn_combine_nodes::{State, Table};
@@ -28,13 +28,25 @@ fn open_identity(table: &Table, state: &State, f: OpId, k: usize) -> Option<(usi
     None
 }
 
-// A question whether class k has the identity of an operator that uses it, where another one has it too.
+// Whether it is asked if class k has f's identity: where another operator that uses the class has it too, or of all.
+fn is_asked_of(sig: &Signature, sums: &[Sums], n: usize, f: OpId, k: usize, all: bool) -> bool
+    requires whole { All (IsWholeSums n) sums.now }
+    ensures { HasTwinIn sig.now sums.now f k → IsTrue result }
+{
+    if all {
+        return true;
+    }
+    has_twin(sig, sums, n, f, k)
+}
+
+// A question whether class k has the identity of an operator that uses it, where another one has it too, or of each.
 fn open_of_class(
     sig: &Signature,
     table: &Table,
     state: &State,
     sums: &[Sums],
     k: usize,
+    all: bool,
 ) -> Option<(usize, usize)>
     requires naming { IsNaming state.now }
     requires whole { length state.now.names ≡ length table.now.nodes }
@@ -47,7 +59,7 @@ fn open_of_class(
         if !is_user(s, k) {
             continue;
         }
-        if !has_twin(sig, sums, n, s.operator, k) {
+        if !is_asked_of(sig, sums, n, s.operator, k, all) {
             continue;
         }
         match open_identity(table, state, s.operator, k) {
@@ -58,12 +70,14 @@ fn open_of_class(
     None
 }
 
-// A question whether a shared class has the identity of an operator that uses it.
+// A question whether a shared class has the identity of an operator that uses it, where another one has it too, or of
+// each.
 pub(crate) fn identity_question(
     sig: &Signature,
     table: &Table,
     state: &State,
     reading: &Reading,
+    all: bool,
 ) -> Option<(usize, usize)>
     requires naming { IsNaming state.now }
     requires whole { length state.now.names ≡ length table.now.nodes }
@@ -77,7 +91,7 @@ pub(crate) fn identity_question(
         if !is_shared(reading, n, k) {
             continue;
         }
-        match open_of_class(sig, table, state, reading.sums.as_slice(), k) {
+        match open_of_class(sig, table, state, reading.sums.as_slice(), k, all) {
             None => {}
             Some(pair) => return Some(pair),
         }

@@ -11,11 +11,11 @@ loop-s-preserved-then-not-is_user c =
     more_of past c.args.sums.now c.args.sums.now refl c.loop-s.s-index c.s-item.result c.loop-s-test.true c.loop-s.invariant
     (subst past c.s-item.is (λ m. absurd (false≢true (sym c.if-not-is_user.true ∙ c.is_user.ensures.1 m))))
 
-pub loop-s-preserved-then-not-has_twin : goal.loop-s-preserved-then-not-has_twin
-loop-s-preserved-then-not-has_twin c =
+pub loop-s-preserved-then-not-is_asked_of : goal.loop-s-preserved-then-not-is_asked_of
+loop-s-preserved-then-not-is_asked_of c =
     let past = IsPastUser c.args.sig.now c.args.table.now c.args.state.now c.args.sums.now c.args.k in
     more_of past c.args.sums.now c.args.sums.now refl c.loop-s.s-index c.s-item.result c.loop-s-test.true c.loop-s.invariant
-    (subst past c.s-item.is (λ m twin. absurd (false≢true (sym c.if-not-has_twin.true ∙ c.has_twin.ensures.1 twin))))
+    (subst past c.s-item.is (λ m twin. absurd (false≢true (sym c.if-not-is_asked_of.true ∙ c.is_asked_of.ensures twin))))
 
 pub loop-s-preserved : goal.loop-s-preserved
 loop-s-preserved c =
