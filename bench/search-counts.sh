@@ -1,5 +1,5 @@
 #!/usr/bin/env bash
-# How many states, leaves, plans and choices the search for unifiers modulo C, AC and ACU goes through. A state is a set of decisions which nodes of the problem are in one class; a fact is a state of which all unifiers say the same, so that nothing is asked; a leaf is one in which nothing more is asked; a plan is a leaf with an operator, or none, for each class that several operators use; a choice is a set of minimal solutions for each sum operator of a plan. It proves nothing: run at the top of the repository, it works in a copy. PROBLEMS=FILE takes other problems than those of bench/combine-problems.txt, written as in bench/combine-times.sh.
+# How many states, leaves, plans and choices the search for unifiers modulo C, AC and ACU goes through. A state is a set of decisions which nodes of the problem are in one class; a fact is a state of which all unifiers say the same, so that nothing is asked; a leaf is one in which nothing more is asked; a plan is a leaf with an operator, or none, for each class that several operators use, also where the solver passes it over; a choice is a set of minimal solutions for each sum operator of a plan. It proves nothing: run at the top of the repository, it works in a copy. PROBLEMS=FILE takes other problems than those of bench/combine-problems.txt, written as in bench/combine-times.sh.
 set -e
 here=$(cd "$(dirname "$0")/.." && pwd)
 there=$(mktemp -d)
@@ -94,8 +94,9 @@ fn look_further(
     state: &State,
     reading: &Reading,
     known: &Known,
+    all: bool,
 ) -> Result<Looked, NoMemory> {
-    if let Some(pair) = first_question(sig, table, state, reading) {
+    if let Some(pair) = first_question(sig, table, state, reading, all) {
         return Ok(question(sig, table, state, known, pair));
     }
     let mut solved = SolvedSystems::new(alloc);
@@ -115,14 +116,14 @@ fn look_further(
     }
 }
 
-fn look(alloc: Global, sig: &Signature, table: &Table, state: &State) -> Result<Looked, NoMemory> {
+fn look(alloc: Global, sig: &Signature, table: &Table, state: &State, all: bool) -> Result<Looked, NoMemory> {
     let reading = read(alloc, sig, table, state)?;
     let known = known_of(alloc, sig, table, state, &reading, true)?;
     match infer(alloc, sig, table, state, &reading, &known)? {
         Inferred::Impossible => Ok(Looked::Passed),
         Inferred::Together(i, j) => Ok(Looked::Together(i, j)),
         Inferred::Question(i, j) => Ok(Looked::Question(i, j)),
-        Inferred::Nothing => look_further(alloc, sig, table, state, &reading, &known),
+        Inferred::Nothing => look_further(alloc, sig, table, state, &reading, &known, all),
     }
 }
 
@@ -133,7 +134,9 @@ fn counted(alloc: Global, sig: &Signature, problem: &Pairs) -> Result<([u64; 5],
     let mut counts: [u64; 5] = [0; 5];
     while let Some(state) = tree.top() {
         counts[0] = counts[0].saturating_add(1);
-        match look(alloc, sig, &table, state)? {
+        // A search that has asked 128 states asks of all identities.
+        let all = counts[0].saturating_sub(counts[4]) > 128;
+        match look(alloc, sig, &table, state, all)? {
             Looked::Question(i, j) => tree.ask(alloc, sig, &table, i, j)?,
             Looked::Together(i, j) => {
                 counts[4] = counts[4].saturating_add(1);
