@@ -1,5 +1,5 @@
 -- Sums and one more among them.
-use Rattle.std.proofs.Common.{◌≡◌, ℕ, ◌+◌, zero, suc, List, [], ◌∷◌, Option, refl, sym, ap, ◌∙◌, subst, arith}
+use Rattle.std.proofs.Common.{◌≡◌, ℕ, ◌+◌, ◌≤◌, zero, suc, List, [], ◌∷◌, length, drop, get_or, Option, refl, sym, ap, ◌∙◌, subst, arith}
 use Rattle.std.specs.Prelude.{◌↔◌, Result, IfOk}
 use Rattle.std.specs.List.{insert}
 use Rattle.fvn_terms.specs.declared.plain.Var.{Var}
@@ -9,6 +9,11 @@ use Rattle.fvn_match.specs.inner.Candidates.{Values, IsSolution, Finds}
 use Rattle.fvn_match.specs.inner.Goals.{IsOneMore, SumHolds, SumsHold, SumFits, SumsFit, sum_weight, sums_weight}
 use Rattle.fvn_match.specs.declared.goals.SumGoal.{SumGoal}
 use Rattle.fvn_match.proofs.Finding.{if_found_same}
+
+-- the first of some sums, and the others
+pub first_parted : (sums : List SumGoal) (goal : SumGoal) → 1 ≤ length sums → goal ≡ get_or sums 0 goal → sums ≡ goal ∷ drop 1 sums
+first_parted [] goal some is = absurd (omega arith)
+first_parted (g ∷ sums) goal some is = ap (λ h. h ∷ sums) (sym is)
 
 -- another name of the same sums
 pub one_more_named : (goal : SumGoal) (sums all named : List SumGoal) → IsOneMore goal sums all → named ≡ all → IsOneMore goal sums named
