@@ -54,8 +54,8 @@ solve-again-requires t c =
 pub solve-returns-in-Pairs : goal.solve-returns-in-Pairs
 solve-returns-in-Pairs t c = subst (λ g. IfOk c.again.result (SearchesGoals c.args.self.now g c.args.sums.now c.args.bound.now)) (sym c.in-Pairs.is) c.again.ensures
 
-pub solve-returns-in_ok-s-then-is_empty : goal.solve-returns-in_ok-s-then-is_empty
-solve-returns-in_ok-s-then-is_empty t c =
+pub solve-returns-then-is_empty : goal.solve-returns-then-is_empty
+solve-returns-then-is_empty t c =
     let none = nil_from_length c.args.sums.now (eqb-true (length c.args.sums.now) 0 (sym c.is_empty.ensures ∙ c.if-is_empty.true)) in
     subst (λ g. SearchesGoals c.args.self.now g c.args.sums.now c.args.bound.now (Some c.in_ok-s.s)) (sym c.in-Done.is)
     (subst (λ w. SearchesGoals c.args.self.now Done w c.args.bound.now (Some c.in_ok-s.s)) (sym none)
@@ -73,8 +73,8 @@ solve-sum-requires t c =
     let fits = subst (SumsFit d) c.first_sum.ensures c.requires.state.sums in
     (omega (arith, ap sums_weight c.first_sum.ensures, ap sums_weight c.other_sums.ensures), (c.requires.vars, record { sum_fits = fits.0; sums_fit = subst (SumsFit d) (sym c.other_sums.ensures) fits.1; values = c.requires.state.values }))
 
-pub solve-returns-in-Done : goal.solve-returns-in-Done
-solve-returns-in-Done t c =
+pub solve-returns-else-is_empty : goal.solve-returns-else-is_empty
+solve-returns-else-is_empty t c =
     subst (λ g. IfOk c.sum.result (SearchesGoals c.args.self.now g c.args.sums.now c.args.bound.now)) (sym c.in-Done.is)
     (subst (λ w. IfOk c.sum.result (SearchesGoals c.args.self.now Done w c.args.bound.now)) (sym c.first_sum.ensures)
     (subst (λ w. IfOk c.sum.result (SearchesSum c.args.self.now c.first_sum.result.now w c.args.bound.now)) c.other_sums.ensures c.sum.ensures))
