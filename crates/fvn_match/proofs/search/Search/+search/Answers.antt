@@ -399,8 +399,8 @@ summed-solve-requires t c =
     let y = ap weight_of c.args-2.ensures.exact in
     let z = more_weight one c.args.sums.now c.as_slice-4.result.now more in
     let fits =
-        started_fits d c.recall_good.ensures.fits c.args.f c.requires.associative c.args.p.now c.args.t.now c.requires.pair c.requires.head
-        c.as_slice.result (patterns_are ∙ ap reverse c.args-2.ensures.exact) c.in_ok-counted.counted (subst (λ l. IsCounted l c.in_ok-counted.counted) c.summands.ensures c.in_ok-counted.ensures) c.as_slice-2.result c.as_slice-2.ensures.value c.as_slice-3.result c.as_slice-3.ensures.value (omega (arith, small)) 0 in (
+    started_fits d c.recall_good.ensures.fits c.args.f c.requires.associative c.args.p.now c.args.t.now c.requires.pair c.requires.head
+    c.as_slice.result (patterns_are ∙ ap reverse c.args-2.ensures.exact) c.in_ok-counted.counted (subst (λ l. IsCounted l c.in_ok-counted.counted) c.summands.ensures c.in_ok-counted.ensures) c.as_slice-2.result c.as_slice-2.ensures.value c.as_slice-3.result c.as_slice-3.ensures.value (omega (arith, small)) 0 in (
       omega (arith, w, v, x, y, z),
       (c.requires.vars, record { pairs = c.requires.state.pairs; sums = more_fit d one c.args.sums.now c.as_slice-4.result.now more fits c.requires.state.sums; values = c.requires.state.values }),
     )
