@@ -50,7 +50,7 @@ pub(crate) fn with_sum<'a>(
     goal: SumGoal<'a>,
     sums: &[SumGoal<'a>],
 ) -> Result<Vec<SumGoal<'a>>, NoMemory>
-    ensures { IfOk result (λ all. IsOneMore goal sums.now all.items) }
+    ensures { IfOk result (λ all. IsOneMore goal.entry sums.now all.items) }
 {
     let i = place(sums, ways(&goal));
     let mut all = Vec::with_capacity(alloc, sums.len().saturating_add(1))?;
