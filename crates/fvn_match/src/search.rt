@@ -80,7 +80,7 @@ impl Search<'_> {
                     let s = answer(self.alloc, self.vars, bound)?;
                     return Ok(Some(s));
                 }
-                self.sum(first_sum(sums), other_sums(sums), &*bound)
+                self.sum(first_sum(&*sums), other_sums(&*sums), &*bound)
             }
         }
     }
@@ -352,7 +352,7 @@ impl Search<'_> {
             left: counted.left.as_slice(),
             seen: 0,
         };
-        let more = with_sum(self.alloc, goal, sums)?;
+        let more = with_sum(self.alloc, goal, &*sums)?;
         self.solve(&*rest, more.as_slice(), &*bound)
     }
 
@@ -497,7 +497,7 @@ impl Search<'_> {
             left: left.as_slice(),
             seen: goal.seen,
         };
-        let more = with_sum(self.alloc, smaller, sums)?;
+        let more = with_sum(self.alloc, smaller, &*sums)?;
         let deeper = Search {
             alloc: self.alloc,
             sig: self.sig,

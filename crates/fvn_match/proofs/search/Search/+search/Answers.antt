@@ -57,9 +57,9 @@ solve-returns-in-Pairs t c = subst (λ g. IfOk c.again.result (SearchesGoals c.a
 pub solve-returns-then-is_empty : goal.solve-returns-then-is_empty
 solve-returns-then-is_empty t c =
     let none = nil_from_length c.args.sums.now (eqb-true (length c.args.sums.now) 0 (sym c.is_empty.ensures ∙ c.if-is_empty.true)) in
-    subst (λ g. SearchesGoals c.args.self.now g c.args.sums.now c.args.bound.now (Some c.in_ok-s.s)) (sym c.in-Done.is)
-    (subst (λ w. SearchesGoals c.args.self.now Done w c.args.bound.now (Some c.in_ok-s.s)) (sym none)
-    (found_values c.args.self.now.sig.now (bindings_of c.args.bound.now) c.args.self.now.vars.now c.in_ok-s.s c.requires.state.values c.in_ok-s.ensures))
+    subst (λ g. SearchesGoals c.args.self.now g c.args.sums.now c.args.bound.now (Some c.in_ok-s-in-Done.s)) (sym c.in-Done.is)
+    (subst (λ w. SearchesGoals c.args.self.now Done w c.args.bound.now (Some c.in_ok-s-in-Done.s)) (sym none)
+    (found_values c.args.self.now.sig.now (bindings_of c.args.bound.now) c.args.self.now.vars.now c.in_ok-s-in-Done.s c.requires.state.values c.in_ok-s-in-Done.ensures))
 
 pub solve-first_sum-requires : goal.solve-first_sum-requires
 solve-first_sum-requires t c = not_zero (length c.args.sums.now) (sym c.is_empty.ensures ∙ c.if-is_empty.false)
