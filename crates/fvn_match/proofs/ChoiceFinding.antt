@@ -25,7 +25,6 @@ use Rattle.fvn_match.specs.inner.Goals.{patterns_of, pieces_of, SumHolds, SumsHo
 use Rattle.fvn_match.specs.inner.Searching.{IsWhole}
 use Rattle.fvn_match.specs.inner.Refusing.{NeverMakes}
 use Rattle.fvn_match.specs.declared.goals.SumGoal.{SumGoal}
-use Rattle.fvn_match.specs.declared.goals.Sums.{Sums}
 use Rattle.fvn_match.proofs.Tallies.{each_repeated, length_repeated}
 use Rattle.fvn_match.proofs.Runs.{references-drop, length_references}
 use Rattle.fvn_match.proofs.Finding.{if_found_same}
@@ -46,7 +45,7 @@ module _ (d : Declarations) (goal : SumGoal) (fit : SumFits d goal) (chosen : Li
   never_settled : Settled d (fapp goal.op true fnone) → ⊥
   never_settled s = let two : 2 ≤ 0 = s.0.two_or_more in omega arith
 
-  module _ (b : Bindings) (vars : List Var) (p : FlatTerm) (k : ℕ) (sums : Sums) where
+  module _ (b : Bindings) (vars : List Var) (p : FlatTerm) (k : ℕ) (sums : List SumGoal) where
     pub refused_whole : IsWhole d goal chosen None → Finds vars (IsSolution d b (ChoiceAsked d goal p k chosen sums)) None
     refused_whole w c s = never_settled (subst (Settled d) (s.holds.0 ∙ no_sum w.0 w.1) (inst_settled d c s.candidate.flat.settled p))
 

@@ -17,6 +17,7 @@ mod KnownSteps
 mod SumFinding
 mod ChoiceFinding
 mod SummedFinding
+mod OneMore
 mod Weights
 mod WholeSteps
 mod OnePiece

@@ -19,7 +19,6 @@ use Rattle.fvn_match.specs.inner.Known.{IsOpen, LeavesOpen}
 use Rattle.fvn_match.specs.inner.Searching.{IsGroup, IsRoom}
 use Rattle.fvn_match.specs.inner.Refusing.{IsHopeless}
 use Rattle.fvn_match.specs.declared.goals.SumGoal.{SumGoal}
-use Rattle.fvn_match.specs.declared.goals.Sums.{Sums}
 use Rattle.fvn_match.specs.declared.known.Open.{Open}
 use Rattle.fvn_match.proofs.Advancing.{FromOn, FromNextOn, nothing_between, from_zeros}
 use Rattle.fvn_match.proofs.Tallies.{fits_quotients, numbers_in}
@@ -29,7 +28,7 @@ use Rattle.fvn_match.proofs.Finding.{if_found_same, found_first, found_none}
 use Rattle.fvn_match.proofs.SumSteps.{adds_up_none, choice_adds_up, choice_fits, choice_is, choice_leaves, choice_length, only_choice}
 
 -- a choice that a candidate takes is this one or comes after it
-abbrev pub IsTried : Declarations → Bindings → SumGoal → FlatTerm → ℕ → List ℕ → ℕ → Sums → List ℕ → Type 0
+abbrev pub IsTried : Declarations → Bindings → SumGoal → FlatTerm → ℕ → List ℕ → ℕ → List SumGoal → List ℕ → Type 0
 IsTried d b goal p k limits room sums chosen =
     (c : Values) → IsCandidate d c → Agrees b c → (js : List ℕ) → IsWithin room limits js → ChoiceAsked d goal p k js sums c → FromOn chosen js
 
@@ -112,7 +111,7 @@ module _ (d : Declarations) (b : Bindings) (vars : List Var) (goal : SumGoal) (f
       found_taken e r f = if_found_same vars d b X WithSum (λ c k a. (λ h. ((all_taken c).1 e, h), λ h. h.1)) r f
 
   -- choices for a group
-  module _ (p : FlatTerm) (k : ℕ) (g : IsGroup d goal p k) (sums : Sums) (limits : List ℕ) (limits_are : limits ≡ quotients k goal.left.now) where
+  module _ (p : FlatTerm) (k : ℕ) (g : IsGroup d goal p k) (sums : List SumGoal) (limits : List ℕ) (limits_are : limits ≡ quotients k goal.left.now) where
     group : patterns_of goal ≡ replicate k p ++ drop k (patterns_of goal)
     group = sym (take-append-drop k (patterns_of goal)) ∙ ap (λ l. l ++ drop k (patterns_of goal)) (g.run.same p g.others g.first)
 

@@ -21,12 +21,12 @@ use Rattle.fvn_match.specs.inner.Tallies.{tally, repeated, AreDistinct, AddsUp}
 use Rattle.fvn_match.specs.inner.Candidates.{Values}
 use Rattle.fvn_match.specs.inner.Goals.{SumsHold, Asked}
 use Rattle.fvn_match.specs.declared.goals.Goals.{Goals, Done, Lists', Pairs'}
-use Rattle.fvn_match.specs.declared.goals.Sums.{Sums}
+use Rattle.fvn_match.specs.declared.goals.SumGoal.{SumGoal}
 use Rattle.fvn_match.proofs.Advancing.{sum-cons}
 use Rattle.fvn_match.proofs.Tallies.{count_repeated, length_repeated, each_repeated, same_length, tally_elsewhere, zeros-tally, tally_none, tally-reduced, fits_quotients, numbers_in, fits_numbers, numbers_make_up}
 
 -- goals with one sum more ask it too
-pub asked_more : (d : Declarations) (goals : Goals) (more sums : Sums) (X : Type 0) (c : Values) → SumsHold d more c ↔ (X × SumsHold d sums c) → Asked d goals more c ↔ (X × Asked d goals sums c)
+pub asked_more : (d : Declarations) (goals : Goals) (more sums : List SumGoal) (X : Type 0) (c : Values) → SumsHold d more c ↔ (X × SumsHold d sums c) → Asked d goals more c ↔ (X × Asked d goals sums c)
 asked_more d Done more sums X c same = same
 asked_more d (Lists' ps ts r rest) more sums X c same =
     let k = asked_more d rest more sums X c same in

@@ -19,7 +19,6 @@ use Rattle.fvn_match.specs.inner.Candidates.{Values, IsCandidate, IsSolution, Fi
 use Rattle.fvn_match.specs.inner.Goals.{SumHolds, SumsHold, Asked, IsPair}
 use Rattle.fvn_match.specs.declared.goals.Goals.{Goals}
 use Rattle.fvn_match.specs.declared.goals.SumGoal.{SumGoal}
-use Rattle.fvn_match.specs.declared.goals.Sums.{Sums}
 use Rattle.fvn_match.specs.declared.summands.Counted.{Counted}
 use Rattle.fvn_match.proofs.Finding.{if_found_same}
 use Rattle.fvn_match.proofs.SumSteps.{asked_more, summands_of, count_summands-reverse}
@@ -43,7 +42,7 @@ module _ (d : Declarations) (fits : FitsKinds d) (f : OpId) (assoc : IsAssociati
         λ e q. ap (λ o. count q (summands_of d o c (references goal.patterns.now))) op_is ∙ pattern_counts c q ∙ iff.0 e q ∙ sym (target_counts q),
       )
 
-  pub found_summed : (b : Bindings) (vars : List Var) (rest : Goals) (more sums : Sums) → {E : Type 0} (found : Result (Option Bindings) E) →
+  pub found_summed : (b : Bindings) (vars : List Var) (rest : Goals) (more sums : List SumGoal) → {E : Type 0} (found : Result (Option Bindings) E) →
       IfOk found (Finds vars (IsSolution d b (Asked d rest more))) → ((c : Values) → SumsHold d more c ↔ (SumHolds d goal c × SumsHold d sums c)) → IfOk found (Finds vars (IsSolution d b (λ c. (inst d c p ≡ t) × Asked d rest sums c)))
   found_summed b vars rest more sums found h split =
       if_found_same vars d b (Asked d rest more) (λ c. (inst d c p ≡ t) × Asked d rest sums c)

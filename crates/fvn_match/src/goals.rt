@@ -38,15 +38,6 @@ pub(crate) struct SumGoal<'a> {
     pub(crate) seen: usize,
 }
 
-// Sums, which wait until no pair is left.
-#[derive(Drop)]
-pub(crate) enum Sums<'a> {
-    // No sum is left.
-    NoSum,
-    // A sum, and others.
-    WithSum(SumGoal<'a>, &'a Sums<'a>),
-}
-
 // A variable with its value.
 #[derive(Clone, Copy)]
 pub(crate) struct Binding<'a> {

@@ -14,6 +14,7 @@ mod refusing;
 mod search;
 mod summands;
 mod variables;
+mod waiting;
 mod wholes;
 
 pub use heads::may_match;

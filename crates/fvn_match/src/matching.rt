@@ -4,7 +4,7 @@ ghost use Rattle.fvn_flat.specs.Fits.{AllFit};
 ghost use Rattle.fvn_flat.specs.Bindings.{BindingsFit};
 ghost use Rattle.fvn_match.specs.Matching.{HasNoMatcher, Matches, BindsJust, IfFound, IfNothing, joined};
 
-use crate::goals::{Bound, Goals, Sums};
+use crate::goals::{Bound, Goals};
 use crate::pairing::all_have_one_kind;
 use crate::search::Search;
 use crate::variables::variables;
@@ -69,6 +69,6 @@ pub fn matches_both(
     };
     let second = Goals::Lists(pattern.1, target.1, &Goals::Done);
     let goals = Goals::Lists(pattern.0, target.0, &second);
-    let found = search.solve(&goals, &Sums::NoSum, &Bound::Nothing)?;
+    let found = search.solve(&goals, &[], &Bound::Nothing)?;
     Ok(found)
 }

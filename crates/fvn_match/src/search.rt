@@ -25,11 +25,12 @@ ghost use Rattle.fvn_match.specs.inner.Searching.{
 use crate::answers::answer;
 use crate::apart::{may_make, untouched};
 use crate::choices::{advanced, quotients, reduced, zeros};
-use crate::goals::{Bound, Goals, Latest, Pairs, SumGoal, Sums};
+use crate::goals::{Bound, Goals, Latest, Pairs, SumGoal};
 use crate::known::{has_known, without_known};
 use crate::pairing::{has_sort_of, lacks_sort};
 use crate::refusing::is_hopeless;
 use crate::summands::{after, alike, count_pieces, is_headed, reversed, summands};
+use crate::waiting::{first_sum, other_sums, with_sum};
 use crate::wholes::{are_zero, room, whole};
 use fvn_flat::{Flat, Subst};
 use fvn_signature::Signature;
@@ -55,7 +56,7 @@ impl Search<'_> {
     pub(crate) fn solve(
         &self,
         goals: &Goals<'_>,
-        sums: &Sums<'_>,
+        sums: &[SumGoal<'_>],
         bound: &Bound<'_>,
     ) -> Result<Option<Subst>, NoMemory>
         requires vars { AreOnce self.now.vars.now }
@@ -74,13 +75,13 @@ impl Search<'_> {
                     &*bound,
                 )
             }
-            Goals::Done => match sums {
-                Sums::WithSum(goal, rest) => self.sum(&*goal, &**rest, &*bound),
-                Sums::NoSum => {
+            Goals::Done => {
+                if sums.is_empty() {
                     let s = answer(self.alloc, self.vars, bound)?;
-                    Ok(Some(s))
+                    return Ok(Some(s));
                 }
-            },
+                self.sum(first_sum(&*sums), other_sums(&*sums), &*bound)
+            }
         }
     }
 
@@ -91,7 +92,7 @@ impl Search<'_> {
         ps: &'x [Flat],
         ts: &'x [Flat],
         rest: &Goals<'_>,
-        sums: &Sums<'_>,
+        sums: &[SumGoal<'_>],
         bound: &'x Bound<'x>,
     ) -> Result<Option<Subst>, NoMemory>
         requires vars { AreOnce self.now.vars.now }
@@ -123,7 +124,7 @@ impl Search<'_> {
         ts: &'x [&'x Flat],
         seen: usize,
         rest: &Goals<'_>,
-        sums: &Sums<'_>,
+        sums: &[SumGoal<'_>],
         bound: &'x Bound<'x>,
     ) -> Result<Option<Subst>, NoMemory>
         requires vars { AreOnce self.now.vars.now }
@@ -159,7 +160,7 @@ impl Search<'_> {
         ts: &'x [&'x Flat],
         seen: usize,
         rest: &'x Goals<'x>,
-        sums: &Sums<'_>,
+        sums: &[SumGoal<'_>],
         bound: &Bound<'_>,
     ) -> Result<Option<Subst>, NoMemory>
         requires vars { AreOnce self.now.vars.now }
@@ -194,7 +195,7 @@ impl Search<'_> {
         p: &Flat,
         t: &Flat,
         rest: &Goals<'_>,
-        sums: &Sums<'_>,
+        sums: &[SumGoal<'_>],
         bound: &Bound<'_>,
     ) -> Result<Option<Subst>, NoMemory>
         requires vars { AreOnce self.now.vars.now }
@@ -234,7 +235,7 @@ impl Search<'_> {
         x: Var,
         t: &'x Flat,
         rest: &Goals<'_>,
-        sums: &Sums<'_>,
+        sums: &[SumGoal<'_>],
         bound: &'x Bound<'x>,
     ) -> Result<Option<Subst>, NoMemory>
         requires vars { AreOnce self.now.vars.now }
@@ -267,7 +268,7 @@ impl Search<'_> {
         ps: &'x [Flat],
         ts: &'x [Flat],
         rest: &Goals<'_>,
-        sums: &Sums<'_>,
+        sums: &[SumGoal<'_>],
         bound: &'x Bound<'x>,
     ) -> Result<Option<Subst>, NoMemory>
         requires vars { AreOnce self.now.vars.now }
@@ -294,7 +295,7 @@ impl Search<'_> {
         t: &'x Flat,
         u: &'x Flat,
         rest: &Goals<'_>,
-        sums: &Sums<'_>,
+        sums: &[SumGoal<'_>],
         bound: &'x Bound<'x>,
     ) -> Result<Option<Subst>, NoMemory>
         requires vars { AreOnce self.now.vars.now }
@@ -328,7 +329,7 @@ impl Search<'_> {
         p: &Flat,
         t: &Flat,
         rest: &Goals<'_>,
-        sums: &Sums<'_>,
+        sums: &[SumGoal<'_>],
         bound: &Bound<'_>,
     ) -> Result<Option<Subst>, NoMemory>
         requires vars { AreOnce self.now.vars.now }
@@ -351,8 +352,8 @@ impl Search<'_> {
             left: counted.left.as_slice(),
             seen: 0,
         };
-        let more = Sums::WithSum(goal, &*sums);
-        self.solve(&*rest, &more, &*bound)
+        let more = with_sum(self.alloc, goal, &*sums)?;
+        self.solve(&*rest, more.as_slice(), &*bound)
     }
 
     // A sum without what is known of it, then other sums.
@@ -361,7 +362,7 @@ impl Search<'_> {
     fn sum(
         &self,
         goal: &SumGoal<'_>,
-        sums: &Sums<'_>,
+        sums: &[SumGoal<'_>],
         bound: &Bound<'_>,
     ) -> Result<Option<Subst>, NoMemory>
         requires vars { AreOnce self.now.vars.now }
@@ -401,7 +402,7 @@ impl Search<'_> {
     fn pick(
         &self,
         goal: &SumGoal<'_>,
-        sums: &Sums<'_>,
+        sums: &[SumGoal<'_>],
         bound: &Bound<'_>,
     ) -> Result<Option<Subst>, NoMemory>
         requires vars { AreOnce self.now.vars.now }
@@ -434,7 +435,7 @@ impl Search<'_> {
         k: usize,
         limits: &[usize],
         room: usize,
-        sums: &Sums<'_>,
+        sums: &[SumGoal<'_>],
         bound: &Bound<'_>,
     ) -> Result<Option<Subst>, NoMemory>
         requires vars { AreOnce self.now.vars.now }
@@ -466,7 +467,7 @@ impl Search<'_> {
         p: &Flat,
         k: usize,
         chosen: &[usize],
-        sums: &Sums<'_>,
+        sums: &[SumGoal<'_>],
         bound: &Bound<'_>,
     ) -> Result<Option<Subst>, NoMemory>
         requires vars { AreOnce self.now.vars.now }
@@ -496,13 +497,13 @@ impl Search<'_> {
             left: left.as_slice(),
             seen: goal.seen,
         };
-        let more = Sums::WithSum(smaller, &*sums);
+        let more = with_sum(self.alloc, smaller, &*sums)?;
         let deeper = Search {
             alloc: self.alloc,
             sig: self.sig,
             vars: self.vars,
             depth: self.depth.saturating_add(1),
         };
-        deeper.pair(&*p, &whole, &Goals::Done, &more, &*bound)
+        deeper.pair(&*p, &whole, &Goals::Done, more.as_slice(), &*bound)
     }
 }

@@ -1,7 +1,7 @@
 -- The goals of a search, and what they ask.
 use denote.Ref.{Bor}
 use Rattle.std.specs.Prelude.{◌≡◌, ◌<◌, ◌^◌, ℕ, ◌+◌, List, [], ◌∷◌, length, map, sum as std_sum, drop, Contains, Option, Some, None, MatchOption}
-use Rattle.std.specs.List.{AllZip, AllByRecursion}
+use Rattle.std.specs.List.{AllZip, AllByRecursion, insert}
 use Rattle.fvn_terms.specs.declared.plain.Var.{Var}
 use Rattle.fvn_terms.specs.declared.plain.SortId.{SortId}
 use Rattle.fvn_terms.specs.declared.declarations.Rank.{Rank}
@@ -19,7 +19,6 @@ use Rattle.fvn_match.specs.inner.Candidates.{Values, IsCandidate}
 use Rattle.fvn_match.specs.declared.goals.Binding.{Binding}
 use Rattle.fvn_match.specs.declared.goals.Goals.{Goals, Done, Lists', Pairs'}
 use Rattle.fvn_match.specs.declared.goals.SumGoal.{SumGoal}
-use Rattle.fvn_match.specs.declared.goals.Sums.{Sums, NoSum, WithSum'}
 use Rattle.fvn_match.specs.declared.goals.Bound.{Bound, Nothing, Bind', Several'}
 
 -- the values with those of more variables, the last of which is the newest
@@ -45,6 +44,10 @@ patterns_of goal = map (λ p. p.now) goal.patterns.now
 abbrev pub pieces_of : SumGoal → List FlatTerm
 pieces_of goal = map (λ t. t.now) goal.pieces.now
 
+-- the sums and one more, which may stand anywhere among them
+abbrev pub IsOneMore : SumGoal → List SumGoal → List SumGoal → Type 0
+IsOneMore goal sums all = (i : ℕ) × (all ≡ insert sums i goal)
+
 module _ (d : Declarations) where
   -- under c each pattern is its target
   abbrev pub AllMake : List FlatTerm → List FlatTerm → Values → Type 0
@@ -55,19 +58,19 @@ module _ (d : Declarations) where
   SumHolds goal = AddsUp d goal.op (patterns_of goal) (pieces_of goal) goal.left.now
 
   -- what sums ask of c
-  abbrev pub SumsHold : Sums → Values → Type 0
-  SumsHold NoSum c = Unit {0}
-  SumsHold (WithSum' goal r rest) c = SumHolds goal c × SumsHold rest c
+  abbrev pub SumsHold : List SumGoal → Values → Type 0
+  SumsHold [] c = Unit {0}
+  SumsHold (goal ∷ rest) c = SumHolds goal c × SumsHold rest c
 
   -- what goals ask of c, and then sums
-  abbrev pub Asked : Goals → Sums → Values → Type 0
+  abbrev pub Asked : Goals → List SumGoal → Values → Type 0
   Asked Done sums c = SumsHold sums c
   Asked (Lists' ps ts r rest) sums c = AllMake ps.now ts.now c × Asked rest sums c
   Asked (Pairs' pairs r rest) sums c =
       AllMake (references pairs.patterns.now) (references pairs.targets.now) c × Asked rest sums c
 
   -- what k copies of a pattern ask that are to be this choice of the pieces of a sum, and the other patterns, and then sums
-  abbrev pub ChoiceAsked : SumGoal → FlatTerm → ℕ → List ℕ → Sums → Values → Type 0
+  abbrev pub ChoiceAsked : SumGoal → FlatTerm → ℕ → List ℕ → List SumGoal → Values → Type 0
   ChoiceAsked goal p k chosen sums c =
       (inst d c p ≡ sum d goal.op (repeated (pieces_of goal) chosen)) × (AddsUp d goal.op (drop k (patterns_of goal)) (pieces_of goal) (reduced k goal.left.now chosen) c × SumsHold sums c)
 
@@ -104,12 +107,12 @@ module _ (d : Declarations) where
     pub small : std_sum goal.left.now < 2 ^ 64
 
   -- the sums fit
-  abbrev pub SumsFit : Sums → Type 0
-  SumsFit NoSum = Unit {0}
-  SumsFit (WithSum' goal r rest) = SumFits goal × SumsFit rest
+  abbrev pub SumsFit : List SumGoal → Type 0
+  SumsFit [] = Unit {0}
+  SumsFit (goal ∷ rest) = SumFits goal × SumsFit rest
 
   -- goals, sums and values so far that go together
-  pub record StateFits (goals : Goals) (waiting : Sums) (so_far : Bound) : Type 0 where
+  pub record StateFits (goals : Goals) (waiting : List SumGoal) (so_far : Bound) : Type 0 where
     pub pairs : GoalsFit goals
     pub sums : SumsFit waiting
     pub values : IsCandidate d (value (bindings_of so_far))
@@ -141,6 +144,6 @@ abbrev pub sum_weight : SumGoal → ℕ
 sum_weight goal = weight_of (patterns_of goal) + 1
 
 -- that of sums
-abbrev pub sums_weight : Sums → ℕ
-sums_weight NoSum = 0
-sums_weight (WithSum' goal r rest) = sum_weight goal + sums_weight rest
+abbrev pub sums_weight : List SumGoal → ℕ
+sums_weight [] = 0
+sums_weight (goal ∷ rest) = sum_weight goal + sums_weight rest

@@ -15,7 +15,6 @@ use Rattle.fvn_match.specs.inner.Candidates.{Values, IsCandidate, IsSolution, Fi
 use Rattle.fvn_match.specs.inner.Goals.{bindings_of, patterns_of, pieces_of, AllMake, SumHolds, SumsHold, Asked, ChoiceAsked, IsPair, SumFits, SumsFit}
 use Rattle.fvn_match.specs.declared.goals.Goals.{Goals}
 use Rattle.fvn_match.specs.declared.goals.SumGoal.{SumGoal}
-use Rattle.fvn_match.specs.declared.goals.Sums.{Sums}
 use Rattle.fvn_match.specs.declared.goals.Bound.{Bound}
 use Rattle.fvn_match.specs.declared.search.Search.{Search}
 
@@ -24,15 +23,15 @@ abbrev pub Searches : Search → Bound → (Values → Type 0) → Option Bindin
 Searches s bound P = Finds s.vars.now (IsSolution s.sig.now (bindings_of bound) P)
 
 -- goals, and then sums
-abbrev pub SearchesGoals : Search → Goals → Sums → Bound → Option Bindings → Type 0
+abbrev pub SearchesGoals : Search → Goals → List SumGoal → Bound → Option Bindings → Type 0
 SearchesGoals s goals sums bound = Searches s bound (Asked s.sig.now goals sums)
 
 -- a pair, and then goals and sums
-abbrev pub SearchesPair : Search → FlatTerm → FlatTerm → Goals → Sums → Bound → Option Bindings → Type 0
+abbrev pub SearchesPair : Search → FlatTerm → FlatTerm → Goals → List SumGoal → Bound → Option Bindings → Type 0
 SearchesPair s p t rest sums bound = Searches s bound (λ c. (inst s.sig.now c p ≡ t) × Asked s.sig.now rest sums c)
 
 -- pairs place by place, and then goals and sums
-abbrev pub SearchesLists : Search → List FlatTerm → List FlatTerm → Goals → Sums → Bound → Option Bindings → Type 0
+abbrev pub SearchesLists : Search → List FlatTerm → List FlatTerm → Goals → List SumGoal → Bound → Option Bindings → Type 0
 SearchesLists s ps ts rest sums bound = Searches s bound (λ c. AllMake s.sig.now ps ts c × Asked s.sig.now rest sums c)
 
 -- two targets in the other order
@@ -42,19 +41,19 @@ crossed (t ∷ []) = t ∷ []
 crossed (t ∷ u ∷ us) = u ∷ t ∷ us
 
 -- two pairs, place by place or crosswise, and then goals and sums
-abbrev pub SearchesEither : Search → List FlatTerm → List FlatTerm → Goals → Sums → Bound → Option Bindings → Type 0
+abbrev pub SearchesEither : Search → List FlatTerm → List FlatTerm → Goals → List SumGoal → Bound → Option Bindings → Type 0
 SearchesEither s ps ts rest sums bound = Searches s bound (λ c. (AllMake s.sig.now ps ts c ⊎ AllMake s.sig.now ps (crossed ts) c) × Asked s.sig.now rest sums c)
 
 -- a sum, and then sums
-abbrev pub SearchesSum : Search → SumGoal → Sums → Bound → Option Bindings → Type 0
+abbrev pub SearchesSum : Search → SumGoal → List SumGoal → Bound → Option Bindings → Type 0
 SearchesSum s goal sums bound = Searches s bound (λ c. SumHolds s.sig.now goal c × SumsHold s.sig.now sums c)
 
 -- k copies of a pattern for one choice of pieces, and then what is left of the sum, and sums
-abbrev pub SearchesChoice : Search → SumGoal → FlatTerm → ℕ → List ℕ → Sums → Bound → Option Bindings → Type 0
+abbrev pub SearchesChoice : Search → SumGoal → FlatTerm → ℕ → List ℕ → List SumGoal → Bound → Option Bindings → Type 0
 SearchesChoice s goal p k chosen sums bound = Searches s bound (ChoiceAsked s.sig.now goal p k chosen sums)
 
 -- the same for some choice within limits and room
-abbrev pub SearchesChoices : Search → SumGoal → FlatTerm → ℕ → List ℕ → ℕ → Sums → Bound → Option Bindings → Type 0
+abbrev pub SearchesChoices : Search → SumGoal → FlatTerm → ℕ → List ℕ → ℕ → List SumGoal → Bound → Option Bindings → Type 0
 SearchesChoices s goal p k limits room sums bound = Searches s bound (λ c. (js : List ℕ) × IsWithin room limits js × ChoiceAsked s.sig.now goal p k js sums c)
 
 module _ (d : Declarations) where
@@ -64,7 +63,7 @@ module _ (d : Declarations) where
     pub across : AllZip (IsPair d) ps (crossed ts)
 
   -- a sum, sums and values so far that go together
-  pub record SumStateFits (goal : SumGoal) (sums : Sums) (bound : Bound) : Type 0 where
+  pub record SumStateFits (goal : SumGoal) (sums : List SumGoal) (bound : Bound) : Type 0 where
     pub sum_fits : SumFits d goal
     pub sums_fit : SumsFit d sums
     pub values : IsCandidate d (value (bindings_of bound))

@@ -197,8 +197,9 @@ C0 f | g f f => C0 f(g)
 A0 | g f => no
 B0 f | B1 f => B0 B1";
 
-// The same for sums of 200 and of 201 equal pieces, and for sums of six and more variables, in the last three blocks of many
-// different pieces, and of even and odd ones.
+// The same for sums of 200 and of 201 equal pieces, for sums of six and more variables, for a sum of many different pieces
+// beside one of two that shares a variable, and in the last three blocks for sums of many different pieces, and of even and
+// odd ones.
 const COUNTED: &str = "A; f : -> A; g : -> A; h : A A -> A [assoc comm]
 A0 A0 A0 h h | f~ f h~ => no
 A0 A0 A0 h h | f~ f h~ f h => yes
@@ -223,6 +224,10 @@ B0 B1 B2 B3 B4 B5 B6 B7 B8 h h h h h h h h | g g h g h g h g h g h g h g h => no
 A0 A1 A2 A3 A4 A5 h h h h h | f f h f h f h f h f h => yes
 A0 A1 A2 A3 A4 A5 h h h h h | g g h g h g h g h g h => no
 A0 A1 A2 A3 A4 A5 h h h h h | f f f f f g h h h h h => no
+
+A; f : -> A; g : -> A; h : A -> A; i : A A -> A [assoc comm]; j : A A -> A [assoc comm]
+A0 A1 i A1 A2 i A3 i A4 i A5 i A6 i A7 i A8 i A9 i j | g g h i f f h i f h h i f h h h i f h h h h i f h h h h h i f h h h h h h i f h h h h h h h i f h h h h h h h h i j => no
+A0 A1 i A1 A2 i A3 i A4 i A5 i A6 i A7 i A8 i A9 i j | g f h h i f f h i f h h i f h h h i f h h h h i f h h h h h i f h h h h h h i f h h h h h h h i f h h h h h h h h i j => yes
 
 A B; A < B; f : -> A; g : -> B; h : A -> A; i : B B -> B [assoc comm]
 A0 A1 i A2 i A3 i A4 i A5 i A6 i A7 i A8 i A9 i | f f h i f h h i f h h h i f h h h h i f h h h h h i f h h h h h h i f h h h h h h h i f h h h h h h h h i g i => no

@@ -3,17 +3,20 @@ use Rattle.std.proofs.Common.{◌≡◌, ◌≤◌, [], ◌∷◌, length, get_o
 use Rattle.std.specs.Prelude.{IfOk, ◌*◌, reverse, sum as std_sum}
 use Rattle.std.specs.List.{AllZip, AllByRecursion}
 use Rattle.std.proofs.lemmas.Bool.{false≢true, eqb-true}
+use Rattle.std.proofs.lemmas.List.{nil_from_length}
 use Rattle.fvn_terms.specs.Signature.{kind, axioms}
 use Rattle.fvn_terms.specs.Equality.{is_sum}
 use Rattle.fvn_terms.proofs.AxiomWords.{sums_associate}
 use Rattle.fvn_forms.specs.InOrder.{InOrder}
+use Rattle.fvn_forms.specs.Canon.{inst}
 use Rattle.fvn_match.specs.inner.Choices.{IsWithin}
 use Rattle.fvn_match.specs.inner.Summands.{references, IsCounted}
 use Rattle.fvn_match.specs.inner.Candidates.{IsSolution, Finds}
 use Rattle.fvn_match.specs.inner.Goals.{bindings_of, patterns_of, SumsHold, Asked, AllMake, ChoiceAsked, IsPair, IsFlatOf, GoalsFit, SumsFit, weight, weight_of, goals_weight, sums_weight}
-use Rattle.fvn_match.specs.inner.Searching.{SearchesGoals, SearchesPair, crossed, IsWhole}
+use Rattle.fvn_match.specs.inner.Searching.{SearchesGoals, SearchesPair, SearchesSum, crossed, IsWhole}
 use Rattle.fvn_match.specs.inner.Known.{LeavesOpen}
 use Rattle.fvn_match.specs.declared.goals.Goals.{Done}
+use Rattle.fvn_match.specs.declared.goals.SumGoal.{SumGoal}
 use Rattle.fvn_match.proofs.AxiomTests.{free_at, commutative_at}
 use Rattle.fvn_match.proofs.Advancing.{zeros_within, rises, place_value_bounded, RisesIf}
 use Rattle.fvn_match.proofs.SummandLists.{parts_in_order}
@@ -26,6 +29,7 @@ use Rattle.fvn_match.proofs.SumFitting.{started_fits, smaller_fits}
 use Rattle.fvn_match.proofs.SumFinding.{IsTried, no_patterns, group_of, group_within, choice_within, as_long, length_quotients, each_itself, refused_hopeless, refused_closed, found_open, open_fits, open_weight, refused_left, found_taken, found_only, found_choices, tried_none, found_choice, tried_one, tried_all}
 use Rattle.fvn_match.proofs.ChoiceFinding.{refused_whole, refused_made, whole_pair, left_fits, found_whole}
 use Rattle.fvn_match.proofs.SummedFinding.{found_summed}
+use Rattle.fvn_match.proofs.OneMore.{one_more_named, more_weight, more_fit, more_hold, found_more}
 use Rattle.fvn_match.proofs.WholeSteps.{not_zero}
 use Rattle.fvn_match.proofs.Weights.{weight_args, weight_of-reverse, weight_of-group}
 use Rattle.fvn_match.proofs.search.Search.+search.Goals as goal
@@ -50,21 +54,30 @@ solve-again-requires t c =
 pub solve-returns-in-Pairs : goal.solve-returns-in-Pairs
 solve-returns-in-Pairs t c = subst (λ g. IfOk c.again.result (SearchesGoals c.args.self.now g c.args.sums.now c.args.bound.now)) (sym c.in-Pairs.is) c.again.ensures
 
+pub solve-returns-then-is_empty : goal.solve-returns-then-is_empty
+solve-returns-then-is_empty t c =
+    let none = nil_from_length c.args.sums.now (eqb-true (length c.args.sums.now) 0 (sym c.is_empty.ensures ∙ c.if-is_empty.true)) in
+    subst (λ g. SearchesGoals c.args.self.now g c.args.sums.now c.args.bound.now (Some c.in_ok-s-in-Done.s)) (sym c.in-Done.is)
+    (subst (λ w. SearchesGoals c.args.self.now Done w c.args.bound.now (Some c.in_ok-s-in-Done.s)) (sym none)
+    (found_values c.args.self.now.sig.now (bindings_of c.args.bound.now) c.args.self.now.vars.now c.in_ok-s-in-Done.s c.requires.state.values c.in_ok-s-in-Done.ensures))
+
+pub solve-first_sum-requires : goal.solve-first_sum-requires
+solve-first_sum-requires t c = not_zero (length c.args.sums.now) (sym c.is_empty.ensures ∙ c.if-is_empty.false)
+
+pub solve-other_sums-requires : goal.solve-other_sums-requires
+solve-other_sums-requires t c = not_zero (length c.args.sums.now) (sym c.is_empty.ensures ∙ c.if-is_empty.false)
+
 pub solve-sum-requires : goal.solve-sum-requires
 solve-sum-requires t c =
-    let fits = subst (SumsFit c.args.self.now.sig.now) c.in-WithSum.is c.requires.state.sums in
-    (omega (arith, ap sums_weight c.in-WithSum.is), (c.requires.vars, record { sum_fits = fits.0; sums_fit = fits.1; values = c.requires.state.values }))
+    let d = c.args.self.now.sig.now in
+    let fits = subst (SumsFit d) c.first_sum.ensures c.requires.state.sums in
+    (omega (arith, ap sums_weight c.first_sum.ensures, ap sums_weight c.other_sums.ensures), (c.requires.vars, record { sum_fits = fits.0; sums_fit = subst (SumsFit d) (sym c.other_sums.ensures) fits.1; values = c.requires.state.values }))
 
-pub solve-returns-in-WithSum : goal.solve-returns-in-WithSum
-solve-returns-in-WithSum t c =
+pub solve-returns-else-is_empty : goal.solve-returns-else-is_empty
+solve-returns-else-is_empty t c =
     subst (λ g. IfOk c.sum.result (SearchesGoals c.args.self.now g c.args.sums.now c.args.bound.now)) (sym c.in-Done.is)
-    (subst (λ s. IfOk c.sum.result (SearchesGoals c.args.self.now Done s c.args.bound.now)) (sym c.in-WithSum.is) c.sum.ensures)
-
-pub solve-returns-in_ok-s-in-NoSum : goal.solve-returns-in_ok-s-in-NoSum
-solve-returns-in_ok-s-in-NoSum t c =
-    subst (λ g. SearchesGoals c.args.self.now g c.args.sums.now c.args.bound.now (Some c.in_ok-s-in-NoSum.s)) (sym c.in-Done.is)
-    (subst (λ w. SearchesGoals c.args.self.now Done w c.args.bound.now (Some c.in_ok-s-in-NoSum.s)) (sym c.in-NoSum.is)
-    (found_values c.args.self.now.sig.now (bindings_of c.args.bound.now) c.args.self.now.vars.now c.in_ok-s-in-NoSum.s c.requires.state.values c.in_ok-s-in-NoSum.ensures))
+    (subst (λ w. IfOk c.sum.result (SearchesGoals c.args.self.now Done w c.args.bound.now)) (sym c.first_sum.ensures)
+    (subst (λ w. IfOk c.sum.result (SearchesSum c.args.self.now c.first_sum.result.now w c.args.bound.now)) c.other_sums.ensures c.sum.ensures))
 
 -- two lists
 pub lists-take_all-requires-clause-fits : goal.lists-take_all-requires-clause-fits
@@ -376,33 +389,31 @@ summed-returns-then-lacks_sort t c =
 pub summed-solve-requires : goal.summed-solve-requires
 summed-solve-requires t c =
     let d = c.args.self.now.sig.now in
+    let one : SumGoal = record { op = c.args.f; patterns = c.as_slice.result; pieces = c.as_slice-2.result; left = c.as_slice-3.result; seen = 0 } in
+    let more = one_more_named one c.args.sums.now c.in_ok-more.more.items c.as_slice-4.result.now c.in_ok-more.ensures c.as_slice-4.ensures.value in
     let patterns_are = ap references c.as_slice.ensures.value ∙ c.in_ok-patterns.ensures in
     let small = ap std_sum c.as_slice-3.ensures.value ∙ c.in_ok-counted.ensures.together in
     let w = weight_args c.args.p.now c.args.f c.requires.head in
     let v = ap weight_of patterns_are in
     let x = weight_of-reverse c.args-2.result.now in
-    let y = ap weight_of c.args-2.ensures.exact in (
-      omega (arith, w, v, x, y),
-      (
-        c.requires.vars,
-        record {
-          pairs = c.requires.state.pairs;
-          sums = (
-            started_fits d c.recall_good.ensures.fits c.args.f c.requires.associative c.args.p.now c.args.t.now c.requires.pair c.requires.head
-                c.as_slice.result (patterns_are ∙ ap reverse c.args-2.ensures.exact) c.in_ok-counted.counted (subst (λ l. IsCounted l c.in_ok-counted.counted) c.summands.ensures c.in_ok-counted.ensures) c.as_slice-2.result c.as_slice-2.ensures.value c.as_slice-3.result c.as_slice-3.ensures.value (omega (arith, small)) 0,
-            c.requires.state.sums,
-          );
-          values = c.requires.state.values;
-        },
-      ),
+    let y = ap weight_of c.args-2.ensures.exact in
+    let z = more_weight one c.args.sums.now c.as_slice-4.result.now more in
+    let fits =
+    started_fits d c.recall_good.ensures.fits c.args.f c.requires.associative c.args.p.now c.args.t.now c.requires.pair c.requires.head
+    c.as_slice.result (patterns_are ∙ ap reverse c.args-2.ensures.exact) c.in_ok-counted.counted (subst (λ l. IsCounted l c.in_ok-counted.counted) c.summands.ensures c.in_ok-counted.ensures) c.as_slice-2.result c.as_slice-2.ensures.value c.as_slice-3.result c.as_slice-3.ensures.value (omega (arith, small)) 0 in (
+      omega (arith, w, v, x, y, z),
+      (c.requires.vars, record { pairs = c.requires.state.pairs; sums = more_fit d one c.args.sums.now c.as_slice-4.result.now more fits c.requires.state.sums; values = c.requires.state.values }),
     )
 
 pub summed-returns : goal.summed-returns
 summed-returns t c =
-    found_summed c.args.self.now.sig.now c.recall_good.ensures.fits c.args.f c.requires.associative c.args.p.now c.args.t.now c.requires.pair c.requires.head
-    (record { op = c.args.f; patterns = c.as_slice.result; pieces = c.as_slice-2.result; left = c.as_slice-3.result; seen = 0 }) refl (ap references c.as_slice.ensures.value ∙ c.in_ok-patterns.ensures ∙ ap reverse c.args-2.ensures.exact)
+    let d = c.args.self.now.sig.now in
+    let one : SumGoal = record { op = c.args.f; patterns = c.as_slice.result; pieces = c.as_slice-2.result; left = c.as_slice-3.result; seen = 0 } in
+    let more = one_more_named one c.args.sums.now c.in_ok-more.more.items c.as_slice-4.result.now c.in_ok-more.ensures c.as_slice-4.ensures.value in
+    found_summed d c.recall_good.ensures.fits c.args.f c.requires.associative c.args.p.now c.args.t.now c.requires.pair c.requires.head
+    one refl (ap references c.as_slice.ensures.value ∙ c.in_ok-patterns.ensures ∙ ap reverse c.args-2.ensures.exact)
     c.in_ok-counted.counted (subst (λ l. IsCounted l c.in_ok-counted.counted) c.summands.ensures c.in_ok-counted.ensures) c.as_slice-2.ensures.value c.as_slice-3.ensures.value
-    (bindings_of c.args.bound.now) c.args.self.now.vars.now c.args.rest.now _ c.args.sums.now c.solve.result c.solve.ensures (λ v. (λ h. h, λ h. h))
+    (bindings_of c.args.bound.now) c.args.self.now.vars.now c.args.rest.now c.as_slice-4.result.now c.args.sums.now c.solve.result c.solve.ensures (more_hold d one c.args.sums.now c.as_slice-4.result.now more)
 
 -- a sum
 pub sum-is_hopeless-requires : goal.sum-is_hopeless-requires
@@ -696,18 +707,18 @@ choose-pair-requires t c =
     let first = c.requires.group.first in
     let flat_p = (subst (AllByRecursion (IsFlatOf d (kind d fit.rank.result))) first fit.patterns).0 in
     let others = ap references c.after-others.ensures ∙ references-drop k goal_now.patterns.now in
+    let one : SumGoal = record { op = goal_now.op; patterns = c.after-others.result; pieces = goal_now.pieces; left = c.as_slice.result; seen = goal_now.seen } in
+    let more = one_more_named one c.args.sums.now c.in_ok-more.more.items c.as_slice-2.result.now c.in_ok-more.ensures c.as_slice-2.ensures.value in
     let x = ap weight_of others in
-    let y = weight_of-group k (patterns_of goal_now) c.args.p.now c.requires.group.others c.requires.group.run.some first in (
-      omega (arith, x, y),
+    let y = weight_of-group k (patterns_of goal_now) c.args.p.now c.requires.group.others c.requires.group.run.some first in
+    let z = more_weight one c.args.sums.now c.as_slice-2.result.now more in
+    let fits = left_fits d goal_now fit c.args.chosen.now c.requires.long b vars c.args.p.now k c.args.sums.now c.in-Some.t w c.after-others.result c.after-others.ensures c.as_slice.result (c.as_slice.ensures.value ∙ c.in_ok-left.ensures) goal_now.seen in (
+      omega (arith, x, y, z),
       (
         c.requires.vars,
         (
           whole_pair d goal_now fit c.args.chosen.now c.requires.long b vars c.args.p.now k c.args.sums.now c.in-Some.t w c.recall_good.ensures.fits flat_p,
-          record {
-            pairs = tt;
-            sums = (left_fits d goal_now fit c.args.chosen.now c.requires.long b vars c.args.p.now k c.args.sums.now c.in-Some.t w c.after-others.result c.after-others.ensures c.as_slice.result (c.as_slice.ensures.value ∙ c.in_ok-left.ensures) goal_now.seen, c.requires.state.sums_fit);
-            values = c.requires.state.values;
-          },
+          record { pairs = tt; sums = more_fit d one c.args.sums.now c.as_slice-2.result.now more fits c.requires.state.sums_fit; values = c.requires.state.values },
         ),
       ),
     )
@@ -715,6 +726,11 @@ choose-pair-requires t c =
 pub choose-returns : goal.choose-returns
 choose-returns t c =
     let d = c.args.self.now.sig.now in
-    let w = subst (IsWhole d c.args.goal.now c.args.chosen.now) c.in-Some.is c.in_ok-whole.ensures in
-    found_whole d c.args.goal.now c.requires.state.sum_fits c.args.chosen.now c.requires.long (bindings_of c.args.bound.now) c.args.self.now.vars.now c.args.p.now c.args.k c.args.sums.now c.in-Some.t w c.after-others.result c.after-others.ensures c.as_slice.result (c.as_slice.ensures.value ∙ c.in_ok-left.ensures) c.args.goal.now.seen
-    c.pair.result c.pair.ensures
+    let b = bindings_of c.args.bound.now in
+    let vars = c.args.self.now.vars.now in
+    let goal_now = c.args.goal.now in
+    let w = subst (IsWhole d goal_now c.args.chosen.now) c.in-Some.is c.in_ok-whole.ensures in
+    let one : SumGoal = record { op = goal_now.op; patterns = c.after-others.result; pieces = goal_now.pieces; left = c.as_slice.result; seen = goal_now.seen } in
+    let more = one_more_named one c.args.sums.now c.in_ok-more.more.items c.as_slice-2.result.now c.in_ok-more.ensures c.as_slice-2.ensures.value in
+    found_whole d goal_now c.requires.state.sum_fits c.args.chosen.now c.requires.long b vars c.args.p.now c.args.k c.args.sums.now c.in-Some.t w c.after-others.result c.after-others.ensures c.as_slice.result (c.as_slice.ensures.value ∙ c.in_ok-left.ensures) goal_now.seen
+    c.pair.result (found_more d one c.args.sums.now c.as_slice-2.result.now more b vars (λ v. inst d v c.args.p.now ≡ c.in-Some.t) c.pair.result c.pair.ensures)
