@@ -4,6 +4,7 @@ ghost use Rattle.fvn_flat.specs.Forms.{head_of};
 ghost use Rattle.fvn_rewrite_rules.specs.inner.Making.{IsKindedRule};
 ghost use Rattle.fvn_rewrite_rules.specs.inner.Heads.{HasAsInstance, ServesAs, SomeServesAs, AreLeft, AreNeededWith, AreNeeded, IsTable};
 
+use crate::guessing::is_guessed;
 use crate::rule::Rule;
 use fvn_base::Seq;
 use fvn_match::{matches, may_match};
@@ -22,6 +23,10 @@ fn has_instance(alloc: Global, sig: &Signature, rule: &Rule, other: &Rule) -> Re
     let open = may_match(sig, &rule.left, &other.left);
     if !open {
         return Ok(false);
+    }
+    let guessed = is_guessed(alloc, sig, rule, other)?;
+    if guessed {
+        return Ok(true);
     }
     let found = matches(alloc, sig, from_ref(&rule.left), from_ref(&other.left))?;
     let is = found.is_some();

@@ -2,6 +2,7 @@
 ghost use Rattle.std.specs.Prelude.{◌≡◌, ◌++◌, [], map, All, Contains, IfOk};
 ghost use Rattle.fvn_terms.specs.Plain.{term};
 ghost use Rattle.fvn_terms.specs.Equality.{constant};
+ghost use Rattle.fvn_forms.specs.Flat.{fconstant};
 ghost use Rattle.fvn_flat.specs.Bindings.{BindingsFit};
 ghost use Rattle.fvn_rewrite_laws.specs.Kinds.{HasOneKind};
 ghost use Rattle.fvn_rewrite_laws.specs.Identities.{identities};
@@ -11,9 +12,9 @@ ghost use Rattle.fvn_rewrite_rules.specs.inner.Making.{goes_to, IsKindedRule, in
 
 use crate::rule::Rule;
 use fvn_cohere::{distinct_variables, identities_below};
-use fvn_flat::{Subst, flatten};
+use fvn_flat::{Flat, Subst, flatten};
 use fvn_signature::Signature;
-use fvn_terms::{Args, NoMemory, OpId, Plain, Var};
+use fvn_terms::{Args, NoMemory, OpId, Plain, SortId, Var};
 use fvn_theory::Equation;
 use std::alloc::Global;
 
@@ -24,6 +25,23 @@ fn constant(alloc: Global, e: OpId) -> Plain
     Plain::App(e, Args::from_vec(Vec::new(alloc)))
 }
 
+// The flat form of an identity at or below a sort.
+pub(crate) fn identity_form(
+    alloc: Global,
+    sig: &Signature,
+    s: SortId,
+    e: OpId,
+) -> Result<Flat, NoMemory>
+    requires { Contains (identities_below sig.now s) e }
+    ensures { IfOk result (λ t. t ≡ fconstant e) }
+{
+    sig.recall_good();
+    sig.recall_completed();
+    let t = constant(alloc, e);
+    let form = flatten(alloc, sig, &t)?;
+    Ok(form)
+}
+
 // The substitution that sends a variable to an identity at or below its sort.
 fn sent_to(alloc: Global, sig: &Signature, x: Var, e: OpId) -> Result<Subst, NoMemory>
     requires { Contains (identities_below sig.now x.sort) e }
@@ -32,8 +50,7 @@ fn sent_to(alloc: Global, sig: &Signature, x: Var, e: OpId) -> Result<Subst, NoM
 {
     sig.recall_good();
     sig.recall_completed();
-    let t = constant(alloc, e);
-    let form = flatten(alloc, sig, &t)?;
+    let form = identity_form(alloc, sig, x.sort, e)?;
     let s = Subst::empty(alloc).bind(alloc, x, &form)?;
     Ok(s)
 }

@@ -4,6 +4,7 @@
 mod equations;
 mod extending;
 mod extensions;
+mod guessing;
 mod heads;
 mod instances;
 mod rule;

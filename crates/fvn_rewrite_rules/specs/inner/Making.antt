@@ -12,7 +12,7 @@ use Rattle.fvn_forms.specs.Canon.{build, canon, inst}
 use Rattle.fvn_forms.specs.Settled.{Settled}
 use Rattle.fvn_forms.specs.LeastSort.{least_sort}
 use Rattle.fvn_flat.specs.Forms.{head_of}
-use Rattle.fvn_flat.specs.Bindings.{Bindings, value}
+use Rattle.fvn_flat.specs.Bindings.{Bindings, bound, value}
 use Rattle.fvn_flat.specs.Rules.{IsIdentityChoice, IsIdentityInstance, IsRuleFrom}
 use Rattle.fvn_rewrite_laws.specs.Choices.{identities_below}
 use Rattle.fvn_rewrite_laws.specs.Kinds.{HasOneKind}
@@ -24,6 +24,10 @@ abbrev pub goes_to : Var → OpId → Bindings
 goes_to x e = (x, fconstant e) ∷ []
 
 module _ (d : Declarations) where
+  -- each variable that is bound goes to an identity at or below its sort
+  abbrev pub GoToIdentities : Bindings → Type 0
+  GoToIdentities s = (x : Var) (t : FlatTerm) → bound s x ≡ Some t → (e : OpId) × (Contains (identities_below d x.sort) e × (t ≡ fconstant e))
+
   -- both sides are flat, and terms of one kind
   pub record IsKindedRule (rule : Rule) : Type 0 where
     pub kinds : HasOneKind d (plain rule.left, plain rule.right)
