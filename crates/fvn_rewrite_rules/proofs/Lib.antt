@@ -7,4 +7,5 @@ mod Standing
 mod Collecting
 mod Needed
 mod Matched
+mod Sorted
 mod Claims

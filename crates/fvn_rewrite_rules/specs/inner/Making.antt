@@ -7,12 +7,14 @@ use Rattle.fvn_terms.specs.Term.{Term, var}
 use Rattle.fvn_terms.specs.Substitution.{Substitution, apply}
 use Rattle.fvn_terms.specs.Signature.{kind, axioms}
 use Rattle.fvn_terms.specs.Equality.{is_sum}
+use Rattle.fvn_terms.specs.Sorts.{IsWellSorted}
 use Rattle.fvn_forms.specs.Flat.{FlatTerm, fvar, fconstant, plain}
 use Rattle.fvn_forms.specs.Canon.{build, canon, inst}
 use Rattle.fvn_forms.specs.Settled.{Settled}
 use Rattle.fvn_forms.specs.LeastSort.{least_sort}
 use Rattle.fvn_flat.specs.Forms.{head_of}
-use Rattle.fvn_flat.specs.Bindings.{Bindings, bound, value}
+use Rattle.fvn_flat.specs.Bindings.{Bindings, value, BindingsFit}
+use Rattle.fvn_flat.specs.Solving.{substitution}
 use Rattle.fvn_flat.specs.Rules.{IsIdentityChoice, IsIdentityInstance, IsRuleFrom}
 use Rattle.fvn_rewrite_laws.specs.Choices.{identities_below}
 use Rattle.fvn_rewrite_laws.specs.Kinds.{HasOneKind}
@@ -24,9 +26,10 @@ abbrev pub goes_to : Var → OpId → Bindings
 goes_to x e = (x, fconstant e) ∷ []
 
 module _ (d : Declarations) where
-  -- each variable that is bound goes to an identity at or below its sort
-  abbrev pub GoToIdentities : Bindings → Type 0
-  GoToIdentities s = (x : Var) (t : FlatTerm) → bound s x ≡ Some t → (e : OpId) × (Contains (identities_below d x.sort) e × (t ≡ fconstant e))
+  -- the pairs are flat and of their variables' kinds, and stand for a well-sorted substitution
+  pub record AreSorted (s : Bindings) : Type 0 where
+    pub fit : BindingsFit d s
+    pub sorted : IsWellSorted d (substitution s)
 
   -- both sides are flat, and terms of one kind
   pub record IsKindedRule (rule : Rule) : Type 0 where

@@ -1,4 +1,5 @@
 -- A matcher is an instance.
+use Rattle.std.proofs.Common.{refl}
 use Rattle.fvn_rewrite_rules.proofs.Matched.{rule_fits, left_fits, refused, told}
 use Rattle.fvn_rewrite_rules.proofs.heads.has_instance.Goals as goal
 
@@ -7,6 +8,9 @@ may_match-open-requires c = record { pattern = rule_fits c.args.sig.now c.args.r
 
 pub returns-then-not-open : goal.returns-then-not-open
 returns-then-not-open c = refused c.args.sig.now c.args.rule.now c.args.other.now (c.may_match-open.ensures c.if-not-open.true)
+
+pub returns-then-guessed : goal.returns-then-guessed
+returns-then-guessed c = (λ t. c.in_ok-guessed.ensures c.if-guessed.true, λ h. refl)
 
 pub returns : goal.returns
 returns c =
