@@ -1,7 +1,7 @@
 -- One pair more.
-use Rattle.std.proofs.Common.{◌≡◌, [], ◌∷◌, ◌++◌, sym, ap, ◌∙◌, subst}
+use Rattle.std.proofs.Common.{[], ◌∷◌, ◌++◌, sym, ap, ◌∙◌, subst}
 use Rattle.fvn_forms.specs.Flat.{FlatTerm}
-use Rattle.fvn_flat.specs.Bindings.{Bindings, bound}
+use Rattle.fvn_flat.specs.Bindings.{bound}
 use Rattle.fvn_rewrite_rules.specs.inner.Making.{AreSorted}
 use Rattle.fvn_rewrite_rules.proofs.Sorted.{unbound, one_more_sorted}
 use Rattle.fvn_rewrite_rules.proofs.guessing.with_identity.Goals as goal
