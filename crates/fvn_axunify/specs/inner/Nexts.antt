@@ -24,3 +24,17 @@ module _ (before after : Search) where
   abbrev pub IsNext : Next → Type 0
   IsNext (Given g) = IsAdvanced before after (Ok (Some g)) × (work_left after < work_left before)
   IsNext (End end) = IsLast end
+
+-- where a search ends at a refused sum system, it asked for all unifiers
+abbrev pub IsSettled : Search → SolveEnd → Type 0
+IsSettled m Complete = Unit {0}
+IsSettled m (Basis f system) = m.combining.general ≡ false
+IsSettled m Unifiers = Unit {0}
+IsSettled m (Size cause) = Unit {0}
+
+-- the search did not end at a refused sum system
+abbrev pub IsNoRefusal : SolveEnd → Type 0
+IsNoRefusal Complete = Unit {0}
+IsNoRefusal (Basis f system) = ⊥
+IsNoRefusal Unifiers = Unit {0}
+IsNoRefusal (Size cause) = Unit {0}
