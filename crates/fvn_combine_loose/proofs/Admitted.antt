@@ -1,13 +1,13 @@
 -- The loosened substitution has all that the state has decided, and has apart what the loose class parts.
-use Rattle.std.proofs.Common.{◌≡◌, ◌≢◌, ◌⊎◌, ℕ, ◌<◌, ◌≤◌, List, length, get_or, refl, ap, ◌∙◌, sym, subst, inl, inr, arith, All}
+use Rattle.std.proofs.Common.{◌≡◌, ◌≢◌, ◌⊎◌, ℕ, ◌<◌, List, length, get_or, sym, inl, inr, arith}
 use Rattle.fvn_terms.specs.declared.declarations.Declarations.{Declarations}
-use Rattle.fvn_terms.specs.Substitution.{Substitution, apply, Occurs}
+use Rattle.fvn_terms.specs.Substitution.{Substitution}
 use Rattle.fvn_terms.specs.Equality.{BEqual}
 use Rattle.fvn_terms.specs.Unifiers.{Problem}
 use Rattle.fvn_terms.proofs.Equal.{BEqual-sym, BEqual-trans, BEqual-apply}
 use Rattle.fvn_terms.proofs.Occurrences.{BEqual-occurs}
 use Rattle.fvn_forms.proofs.Eval.{canon_respects}
-use Rattle.fvn_combine_nodes.specs.Table.{NodeTable, term_at}
+use Rattle.fvn_combine_nodes.specs.Table.{NodeTable}
 use Rattle.fvn_combine_nodes.specs.States.{Admits, class_of}
 use Rattle.fvn_combine_nodes.specs.Unifiers.{kernel, Partitions}
 use Rattle.fvn_combine_nodes.specs.declared.state.State.{State}

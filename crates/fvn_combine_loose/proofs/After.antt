@@ -1,5 +1,5 @@
 -- The old values are instances of the new ones: the new variable becomes the value of the loose class.
-use Rattle.std.proofs.Common.{◌≡◌, ◌≢◌, ℕ, zero, suc, ◌+◌, ◌<◌, ◌≤◌, List, [], ◌∷◌, length, map, refl, ap, ◌∙◌, sym, subst, inl, inr, arith, Contains}
+use Rattle.std.proofs.Common.{◌≡◌, ◌≢◌, ℕ, zero, suc, ◌<◌, ◌≤◌, List, [], ◌∷◌, length, map, refl, ap, ◌∙◌, sym, subst, inl, inr, arith}
 use Rattle.std.proofs.lemmas.Bool.{cases_lt}
 use Rattle.fvn_base.specs.Decided.{Decided}
 use Rattle.fvn_terms.specs.declared.plain.Var.{Var as Variable}
@@ -7,14 +7,14 @@ use Rattle.fvn_terms.specs.declared.plain.SortId.{SortId}
 use Rattle.fvn_terms.specs.declared.declarations.Declarations.{Declarations}
 use Rattle.fvn_terms.specs.Term.{Term, Terms, var, app, none, more, pack}
 use Rattle.fvn_terms.specs.Substitution.{Substitution, apply, apply_all, Occurs}
-use Rattle.fvn_terms.specs.Signature.{kind, IsSort, HasKind, HaveKinds, KeepsKinds, same}
+use Rattle.fvn_terms.specs.Signature.{kind, HasKind, HaveKinds, KeepsKinds, same}
 use Rattle.fvn_terms.specs.Places.{stop}
 use Rattle.fvn_terms.specs.Equality.{BEqual}
 use Rattle.fvn_terms.specs.Sorts.{HasSort, IsWellSorted}
 use Rattle.fvn_terms.specs.Unifiers.{Problem}
 use Rattle.fvn_terms.proofs.Substitutions.{apply-var, apply-agree}
 use Rattle.fvn_terms.proofs.Equal.{HasKind-apply, BEqual-sym, BEqual-trans, BEqual-inside}
-use Rattle.fvn_forms.proofs.KindsKept.{b_equal_keeps_kind, kind_unique}
+use Rattle.fvn_forms.proofs.KindsKept.{b_equal_keeps_kind}
 use Rattle.fvn_flat.specs.SolvedLists.{only}
 use Rattle.fvn_combine_nodes.specs.Table.{NodeTable, term_at}
 use Rattle.fvn_combine_nodes.specs.States.{class_of}

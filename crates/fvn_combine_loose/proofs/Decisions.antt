@@ -1,5 +1,5 @@
 -- What is decided of variables, and substitutions that go by it.
-use Rattle.std.proofs.Common.{◌≡◌, ◌≢◌, ◌⊎◌, true, List, refl, sym, ap, subst, inl, inr, Contains}
+use Rattle.std.proofs.Common.{◌≡◌, ◌≢◌, true, List, refl, ap, subst, inl, inr, Contains}
 use Rattle.std.specs.Prelude.{if◌then◌else◌}
 use Rattle.std.proofs.lemmas.Bool.{false_from_ne_true}
 use Rattle.fvn_base.specs.Decided.{Decided}

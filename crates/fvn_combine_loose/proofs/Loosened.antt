@@ -1,5 +1,5 @@
 -- The substitution that gives the problem's variables their new values, and the instances that it makes of nodes.
-use Rattle.std.proofs.Common.{◌≡◌, ◌≢◌, ◌⊎◌, ℕ, zero, suc, ◌+◌, ◌<◌, ◌≤◌, List, [], ◌∷◌, length, map, refl, ap, ◌∙◌, sym, subst, inl, inr, arith, All, Any, Contains, Some, slice_get}
+use Rattle.std.proofs.Common.{◌≡◌, ℕ, zero, suc, ◌+◌, ◌<◌, List, length, map, refl, ap, ◌∙◌, sym, subst, inl, inr, arith, All, Contains, Some, slice_get}
 use Rattle.std.proofs.lemmas.Bool.{cases_lt}
 use Rattle.std.proofs.lemmas.Option.{slice_get_within}
 use Rattle.std.proofs.lemmas.List.Elements.{All-contains, All-map}
@@ -7,7 +7,7 @@ use Rattle.fvn_base.specs.Decided.{Decided}
 use Rattle.fvn_terms.specs.declared.plain.Var.{Var as Variable}
 use Rattle.fvn_terms.specs.declared.plain.OpId.{OpId}
 use Rattle.fvn_terms.specs.declared.declarations.Declarations.{Declarations}
-use Rattle.fvn_terms.specs.Term.{Term, var, app, pack}
+use Rattle.fvn_terms.specs.Term.{Term, app, pack}
 use Rattle.fvn_terms.specs.Substitution.{Substitution, apply}
 use Rattle.fvn_terms.specs.Signature.{kind, HasKind, KeepsKinds}
 use Rattle.fvn_terms.specs.Equality.{BEqual}
@@ -22,7 +22,7 @@ use Rattle.fvn_combine_nodes.specs.declared.table.Node.{Node}
 use Rattle.fvn_combine_nodes.specs.declared.table.Node.TheVariants.{Var, App}
 use Rattle.fvn_combine_nodes.proofs.Nodes.{node_at, term_at-variable, term_at-over, term_at-injective}
 use Rattle.fvn_combine_nodes.proofs.NodesOf.{variable_place, node_variable}
-use Rattle.fvn_combine_loose.specs.Loose.{height_of, StandsIn}
+use Rattle.fvn_combine_loose.specs.Loose.{height_of}
 use Rattle.fvn_combine_loose.proofs.Decisions.{listed_or_not}
 use Rattle.fvn_combine_loose.proofs.Mapped.{equal_is, apply_mapped, each_equal}
 use Rattle.fvn_combine_loose.proofs.Setting.{Setting, argument_within}

@@ -1,18 +1,17 @@
 -- Where a loose class parts two nodes, each unifier of the state has a more general one under which they are apart.
-use Rattle.std.proofs.Common.{◌≡◌, ℕ, List, arith, sym, subst, ◌∙◌, Contains}
-use Rattle.fvn_terms.specs.declared.plain.Var.{Var}
+use Rattle.std.proofs.Common.{ℕ, List, arith, sym, subst}
 use Rattle.fvn_terms.specs.declared.declarations.Declarations.{Declarations}
 use Rattle.fvn_terms.specs.Substitution.{Substitution, apply}
 use Rattle.fvn_terms.specs.Equality.{BEqual}
 use Rattle.fvn_terms.specs.Unifiers.{Problem, IsInstance}
 use Rattle.fvn_terms.proofs.Equal.{BEqual-sym}
 use Rattle.fvn_flat.specs.Problems.{variables_of}
-use Rattle.fvn_combine_nodes.specs.Table.{NodeTable, term_at}
+use Rattle.fvn_combine_nodes.specs.Table.{NodeTable}
 use Rattle.fvn_combine_nodes.specs.declared.state.State.{State}
 use Rattle.fvn_combine_nodes.proofs.Nodes.{term_at-variable}
 use Rattle.fvn_combine_loose.specs.MoreGeneral.{IsMoreGeneral}
 use Rattle.fvn_combine_loose.specs.Loose.{height_of}
-use Rattle.fvn_combine_loose.specs.Laws.{IsLoosened, LooseClassesPart}
+use Rattle.fvn_combine_loose.specs.Laws.{LooseClassesPart}
 use Rattle.fvn_combine_loose.proofs.Setting.{Setting}
 use Rattle.fvn_combine_loose.proofs.Remade.{remade}
 use Rattle.fvn_combine_loose.proofs.After.{after, after_sorted, after_remade}

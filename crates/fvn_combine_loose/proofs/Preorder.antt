@@ -1,9 +1,9 @@
 -- Being more general is reflexive and transitive.
-use Rattle.std.proofs.Common.{refl, List, sym, subst, ◌≡◌}
+use Rattle.std.proofs.Common.{refl, List, sym, subst}
 use Rattle.fvn_terms.specs.declared.plain.Var.{Var}
 use Rattle.fvn_terms.specs.declared.declarations.Declarations.{Declarations}
 use Rattle.fvn_terms.specs.Term.{var}
-use Rattle.fvn_terms.specs.Substitution.{Substitution, apply}
+use Rattle.fvn_terms.specs.Substitution.{Substitution}
 use Rattle.fvn_terms.specs.Signature.{same}
 use Rattle.fvn_terms.specs.Places.{stop}
 use Rattle.fvn_terms.specs.Equality.{BEqual}

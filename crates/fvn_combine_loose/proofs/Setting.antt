@@ -1,15 +1,12 @@
 -- A loose class of a state that admits the partition of a unifier.
-use Rattle.std.proofs.Common.{◌≡◌, ℕ, ◌+◌, ◌<◌, ◌≤◌, List, length, map, ap, ◌∙◌, sym, subst, inl, inr, arith, All, Contains, slice_index_or}
+use Rattle.std.proofs.Common.{◌≡◌, ℕ, ◌+◌, ◌<◌, ◌≤◌, List, length, ap, inl, inr, arith, Contains, slice_index_or}
 use Rattle.std.proofs.lemmas.Bool.{cases_lt}
 use Rattle.std.proofs.lemmas.List.Elements.{All-contains}
 use Rattle.fvn_terms.specs.declared.plain.OpId.{OpId}
 use Rattle.fvn_terms.specs.declared.declarations.Declarations.{Declarations}
-use Rattle.fvn_terms.specs.Term.{app, pack}
 use Rattle.fvn_terms.specs.Substitution.{Substitution, apply}
-use Rattle.fvn_terms.specs.Signature.{HasKind}
 use Rattle.fvn_terms.specs.Equality.{BEqual}
 use Rattle.fvn_terms.specs.Unifiers.{Problem}
-use Rattle.fvn_terms.proofs.Equal.{HasKind-apply}
 use Rattle.fvn_forms.specs.Good.{IsGood}
 use Rattle.fvn_flat.specs.Problems.{IsProblem}
 use Rattle.fvn_flat.specs.SolvedLists.{IsKindUnifier}
