@@ -1,0 +1,1 @@
+-- Lemmas on what is checked of guessed heights, and on the sorts of nodes.
