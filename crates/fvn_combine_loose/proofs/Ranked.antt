@@ -1,6 +1,7 @@
 -- What ranks give over nodes whose sorts are known.
 use Rattle.std.proofs.Common.{◌≡◌, ℕ, zero, suc, ◌+◌, ◌<◌, List, [], ◌∷◌, ◌++◌, length, map, get_or, refl, sym, ap, ◌∙◌, subst, ◌⊎◌, inl, inr, arith, Contains, Option, Some, None, slice_get}
 use Rattle.std.specs.Prelude.{IfSome}
+use Rattle.std.proofs.lemmas.List.{get_or-map, length-map}
 use Rattle.fvn_terms.specs.declared.plain.Var.{Var as Variable}
 use Rattle.fvn_terms.specs.declared.plain.OpId.{OpId}
 use Rattle.fvn_terms.specs.declared.plain.SortId.{SortId}
@@ -43,6 +44,13 @@ module _ (d : Declarations) where
         let a = h.each 0 k s (omega arith) in
         let b = forms_of ks ss record { as_many = let n = h.as_many in omega (arith, n); each = λ p l q m. h.each (suc p) l q (omega (arith, m)) } in
         record { forms = more a.form b.forms; equal = each_more a.equal b.equal; fit = (a.gets, b.fit) }
+
+    -- places of the kinds of sorts
+    pub fit_on_kinds : (ks : List ℕ) (args : List SortId) → length ks ≡ length args → ((p k : ℕ) (s : SortId) → p < length ks → HasSort d (term_at nodes (get_or ks p k)) (kind d (get_or args p s))) → Fit d nodes ks (map (kind d) args)
+    fit_on_kinds ks args n each = record {
+      as_many = n ∙ sym (length-map args (kind d));
+      each = λ p k s l. subst (HasSort d (term_at nodes (get_or ks p k))) (sym (get_or-map (kind d) args p s s (omega (arith, l, n)))) (each p k s l);
+    }
 
     over_rank : (f : OpId) (ks : List ℕ) (ss : List SortId) (s : SortId) → HasRank d f ss s → Fit d nodes ks ss → HasSort d (app f (pack (map (term_at nodes) ks))) s
     over_rank f ks ss s rank h =
