@@ -4,8 +4,10 @@
 mod checking;
 mod guessing;
 mod heights;
+mod laws;
 mod parting;
 mod sorts;
 
 pub use heights::loose_heights;
+pub use laws::{loose_classes_part, more_general_is_a_preorder};
 pub use parting::{are_parted, open_identity};
