@@ -1,4 +1,4 @@
--- Lemmas of loose classes, and of substitutions that are more general than a unifier.
+-- Lemmas of loose classes, of what is checked of guessed heights, and of substitutions that are more general than a unifier.
 mod Decisions
 mod Mapped
 mod Setting
@@ -12,3 +12,5 @@ mod Admitted
 mod GivenSorts
 mod Loosening
 mod Preorder
+mod Checked
+mod Ranked

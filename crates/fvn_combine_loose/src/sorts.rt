@@ -2,7 +2,7 @@
 ghost use Rattle.std.specs.Prelude.{◌≡◌, ◌<◌, ◌⊎◌, length, map, All, IfOk, IfSome, IsTrue};
 ghost use Rattle.fvn_terms.specs.declared.plain.OpId.{OpId};
 ghost use Rattle.fvn_terms.specs.Term.{app, pack};
-ghost use Rattle.fvn_terms.specs.Signature.{declared};
+ghost use Rattle.fvn_terms.specs.Signature.{declared, kind};
 ghost use Rattle.fvn_terms.specs.Sorts.{HasSort};
 ghost use Rattle.fvn_combine_nodes.specs.Table.{term_at};
 ghost use Rattle.fvn_combine_loose.specs.inner.NodeSorts.{HaveSorts, Fit, IsGivenBy};
@@ -55,7 +55,29 @@ fn fit(
     true
 }
 
-// The sort that the rank gives over these nodes.
+// Whether the nodes are known to have the kinds of these sorts, place by place.
+fn fit_kinds(
+    sig: &Signature,
+    table: &Table,
+    sorts: &[Option<SortId>],
+    ks: &[usize],
+    args: &[SortId],
+) -> bool
+    requires sorts { HaveSorts sig.now table.now.nodes sorts.now }
+    ensures { IsTrue result → Fit sig.now table.now.nodes ks.now (map (kind sig.now) args.now) }
+{
+    if ks.len() != args.len() {
+        return false;
+    }
+    for p in 0..ks.len() {
+        if !has_sort(sig, table, sorts, ks[p], sig.kind(args[p])) {
+            return false;
+        }
+    }
+    true
+}
+
+// The sort that the rank gives over these nodes, or the kind of that.
 fn sort_by(
     sig: &Signature,
     table: &Table,
@@ -67,10 +89,12 @@ fn sort_by(
     ensures { IfSome result (IsGivenBy sig.now table.now.nodes ks.now rank.now) }
 {
     if fit(sig, table, sorts, ks, rank.args.as_slice()) {
-        Some(rank.result)
-    } else {
-        None
+        return Some(rank.result);
     }
+    if fit_kinds(sig, table, sorts, ks, rank.args.as_slice()) {
+        return Some(sig.kind(rank.result));
+    }
+    None
 }
 
 // One of the two, the lower one where it can be told.

@@ -20,7 +20,7 @@ module _ (s : State) (heights : List ℕ) where
   abbrev pub StandInOne : ℕ → ℕ → Type 0
   StandInOne i j = ((0 < height_in s heights i) × (height_in s heights j ≡ 0)) ⊎ ((height_in s heights i ≡ 0) × (0 < height_in s heights j))
 
-  -- the greatest height of the classes of these nodes
+  -- no height of the classes of these nodes is above it, and where it is not 0 one of them has a height
   pub record IsHighest (ks : List ℕ) (high : ℕ) : Type 0 where
     pub above : All (λ k. height_in s heights k ≤ high) ks
     pub reached : 0 < high → Any (λ k. 0 < height_in s heights k) ks
