@@ -27,7 +27,7 @@ use Rattle.fvn_cover.specs.declared.variant.Variant.{Variant}
 use Rattle.fvn_cover.proofs.Leftovers.{any_contains, any_of}
 use Rattle.fvn_axunify.specs.inner.Asked.{IsAsked}
 use Rattle.fvn_axunify.specs.inner.Members.{IsKept, AreKept, IsReached, IsWithAll}
-use Rattle.fvn_axunify.specs.inner.Nexts.{IsLast, IsSettled, IsNoRefusal}
+use Rattle.fvn_axunify.specs.inner.Nexts.{IsLast, AsksForAllAtRefusal, IsNoRefusal}
 use Rattle.fvn_axunify.specs.Coarser.{HoldsCoarser}
 use Rattle.fvn_axunify.specs.Searched.{EndsSo, IsHeldWhole, IsRun, IsRunToEnd, IsSearched}
 use Rattle.fvn_axunify.specs.inner.Found.{IsFound}
@@ -47,7 +47,7 @@ module _ (d : Declarations) (given : Pairs) (vars : List Var) (kept : List Varia
   run_begun start = record { gave = []; in_turn = refl; whole = All-nil (IsHeldWhole d given (IsReached d given vars kept)) }
 
 -- what a search did last
-pub ends_so : (last now : Search) (end : SolveEnd) → IsSettled last end → IsLast last now end → EndsSo last now end
+pub ends_so : (last now : Search) (end : SolveEnd) → AsksForAllAtRefusal last end → IsLast last now end → EndsSo last now end
 ends_so last now Complete settled h = h
 ends_so last now (Basis f system) settled h = (h, settled)
 ends_so last now Unifiers settled h = absurd h
@@ -56,20 +56,20 @@ ends_so last now (Size (Binding list)) settled h = h
 ends_so last now (Size (Term t)) settled h = h
 
 -- a later state of a search asks for no other unifiers
-pub settled_along : (m after : Search) → after.combining.general ≡ m.combining.general → (end : SolveEnd) → IsSettled m end → IsSettled after end
+pub settled_along : (m after : Search) → after.combining.general ≡ m.combining.general → (end : SolveEnd) → AsksForAllAtRefusal m end → AsksForAllAtRefusal after end
 settled_along m after same Complete h = h
 settled_along m after same (Basis f system) h = same ∙ h
 settled_along m after same Unifiers h = h
 settled_along m after same (Size cause) h = h
 
 -- an end that is no refused sum system is settled, and each is where all unifiers are asked for
-pub no_refusal_settled : (m : Search) (end : SolveEnd) → IsNoRefusal end → IsSettled m end
+pub no_refusal_settled : (m : Search) (end : SolveEnd) → IsNoRefusal end → AsksForAllAtRefusal m end
 no_refusal_settled m Complete h = h
 no_refusal_settled m (Basis f system) h = absurd h
 no_refusal_settled m Unifiers h = h
 no_refusal_settled m (Size cause) h = h
 
-pub every_settled : (m : Search) → m.combining.general ≡ false → (end : SolveEnd) → IsSettled m end
+pub every_settled : (m : Search) → m.combining.general ≡ false → (end : SolveEnd) → AsksForAllAtRefusal m end
 every_settled m every Complete = tt
 every_settled m every (Basis f system) = every
 every_settled m every Unifiers = tt
@@ -103,7 +103,7 @@ module _ (d : Declarations) (given : Pairs) (vars : List Var) (first most size :
   -- an end, with its cause
   pub end_found : (kept : List Variant) → AreKept d given vars first kept → length kept < most →
       ((u : Substitution) → IsUnifier d (problem_of given) u → IsReached d given vars kept u ⊎ IsToCome m u) →
-      (end : SolveEnd) → IsSettled m end → IsLast m after end → IsFound d given vars first most size kept end
+      (end : SolveEnd) → AsksForAllAtRefusal m end → IsLast m after end → IsFound d given vars first most size kept end
   end_found kept are few all Complete settled last = record { are = are; end_of = (few, λ u h. elim (all u h) [ inl r ↦ r | inr t ↦ absurd (last.none u t) ]) }
   end_found kept are few all (Basis f system) settled last = record { are = are; end_of = (few, record { at = finer.at; held = held }) }
     where
