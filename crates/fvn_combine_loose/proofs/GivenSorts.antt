@@ -24,7 +24,7 @@ use Rattle.fvn_combine_nodes.specs.declared.state.State.{State}
 use Rattle.fvn_combine_nodes.specs.declared.table.Node.TheVariants.{Var, App}
 use Rattle.fvn_combine_nodes.proofs.Nodes.{term_at-variable}
 use Rattle.fvn_combine_nodes.proofs.NodesOf.{node_variable}
-use Rattle.fvn_combine_loose.specs.MoreGeneral.{GivesSorts}
+use Rattle.fvn_combine_loose.specs.MoreGeneral.{KeepsSorts}
 use Rattle.fvn_combine_loose.specs.Loose.{height_of}
 use Rattle.fvn_combine_loose.proofs.Decisions.{listed_or_not, occurs_or_not, chosen, chosen_if, chosen_has}
 use Rattle.fvn_combine_loose.proofs.Mapped.{equal_is}
@@ -61,7 +61,7 @@ module _ {d : Declarations} {problem : Problem} {t : NodeTable} {s : State} {z :
         subst (λ w. HasSort d w q) (apply-agree within (loosened g) v (λ x o. chosen_if (occurs_or_not x v) (loosened g x) (var x) o))
         (HasSort-apply d within within_sorted v q h)
 
-  module _ (old : GivesSorts d (variables_of problem) u) where
+  module _ (old : KeepsSorts d (variables_of problem) u) where
     -- the old value of a variable's node
     old_sort : (i : ℕ) (x : Variable) → slice_get t.nodes i ≡ Some (Var x) → HasSort d (apply u (term_at t.nodes i)) x.sort
     old_sort i x is = subst (λ v. HasSort d (apply u v) x.sort) (sym (term_at-variable t.nodes i x is)) (old x (node_variable g.made g.table i x is))
@@ -102,7 +102,7 @@ module _ {d : Declarations} {problem : Problem} {t : NodeTable} {s : State} {z :
             in
             equal_sort d x.sort (BEqual-trans d (node_value g j l) (equal_is d (remade_same g j i m.of))) (loosened_sort (term_at t.nodes j) lower x.sort whole)
 
-    pub loosened_sorts : GivesSorts d (variables_of problem) (loosened g)
+    pub loosened_sorts : KeepsSorts d (variables_of problem) (loosened g)
     loosened_sorts x c = let r = loosened_given g x c in subst (λ v. HasSort d v x.sort) (sym r.3) (remade_sort (height r.0) r.0 x r.2 (omega arith))
 
   pub loosened_well_sorted : IsWellSorted d u → IsWellSorted d (loosened g)

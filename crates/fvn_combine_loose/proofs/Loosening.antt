@@ -43,6 +43,6 @@ loose_classes d good problem kinded t made table s closed i j parted u unifier a
         unifies = loosened_unifies g;
         more_general = more_general g;
         admits = loosened_admitted g;
-        apart = loosened_apart g i j parted.left parted.right parted.one;
       },
+      loosened_apart g i j parted.left parted.right parted.one,
     )
