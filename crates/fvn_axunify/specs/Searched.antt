@@ -1,5 +1,5 @@
 -- What a search gave until it ended: all of it is held by the answer.
-use Rattle.std.specs.Prelude.{◌≤◌, ℕ, List, None, Ok, Err, All, Any}
+use Rattle.std.specs.Prelude.{◌≡◌, ◌≤◌, ℕ, false, List, None, Ok, Err, All, Any}
 use Rattle.fvn_terms.specs.declared.declarations.Declarations.{Declarations}
 use Rattle.fvn_terms.specs.Substitution.{Substitution}
 use Rattle.fvn_terms.specs.Unifiers.{IsUnifier, IsInstance}
@@ -16,11 +16,11 @@ use Rattle.fvn_combine.specs.Search.{Search}
 use Rattle.fvn_combine.specs.Advancing.{IsOf, IsToCome, IsGivenNext, IsAdvanced, AreGiven}
 use Rattle.fvn_combine.specs.declared.ending.CombineEnd.TheVariants.{Basis as OfBasis, Size as OfSize}
 
--- what the last answer of a search said: no unifier was to come; a sum system is refused, and no question was open; one more is
--- given, with which the limit is reached; or a solved list unfolds to too many symbols
+-- what the last answer of a search said: no unifier was to come; a sum system is refused, no question was open, and all unifiers were
+-- asked for; one more is given, with which the limit is reached; or a solved list unfolds to too many symbols
 abbrev pub EndsSo : Search → Search → SolveEnd → Type 0
 EndsSo last now Complete = IsAdvanced last now (Ok None)
-EndsSo last now (Basis f system) = IsAdvanced last now (Err (OfBasis f system))
+EndsSo last now (Basis f system) = IsAdvanced last now (Err (OfBasis f system)) × (last.combining.general ≡ false)
 EndsSo last now Unifiers = (g : Bindings) × IsGivenNext last now g
 EndsSo last now (Size (Problem p)) = ⊥
 EndsSo last now (Size (Binding list)) = IsAdvanced last now (Err (OfSize list))

@@ -1,5 +1,5 @@
 //! The search for all unifiers.
-ghost use Rattle.std.specs.Prelude.{◌≤◌, ◌<◌, IfOk};
+ghost use Rattle.std.specs.Prelude.{◌≤◌, ◌<◌, IfOk, IsFalse};
 ghost use Rattle.fvn_base.specs.declared.limits.TheConstants.{TERM_SYMBOLS};
 ghost use Rattle.fvn_terms.specs.Substitution.{Substitution};
 ghost use Rattle.fvn_terms.specs.Unifiers.{IsUnifier};
@@ -7,6 +7,7 @@ ghost use Rattle.fvn_flat.specs.Solving.{problem_of, symbols_of_pairs};
 ghost use Rattle.fvn_combine.specs.Advancing.{IsOf, IsToCome};
 ghost use Rattle.fvn_axunify.specs.inner.Asked.{IsAsked};
 ghost use Rattle.fvn_axunify.specs.inner.Found.{IsFound};
+ghost use Rattle.fvn_axunify.specs.inner.Nexts.{AsksForAllAtRefusal, IsNoRefusal};
 ghost use Rattle.fvn_axunify.specs.inner.Members.{IsReached};
 ghost use Rattle.fvn_axunify.specs.Searched.{IsRunToEnd, IsSearched};
 
@@ -25,7 +26,20 @@ pub(crate) struct Found {
     pub(crate) end: SolveEnd,
 }
 
-// What is found until the combiner or the limit ends the search.
+// Whether a sum system is refused.
+fn is_refusal(end: &SolveEnd) -> bool
+    ensures { IsFalse result → IsNoRefusal end.now }
+{
+    match end {
+        SolveEnd::Complete => false,
+        SolveEnd::Basis(_, _) => true,
+        SolveEnd::Unifiers => false,
+        SolveEnd::Size(_) => false,
+    }
+}
+
+// What is found until the combiner or the limit ends the search. Where a sum system is refused, it says something only of a
+// search for all unifiers.
 fn run_through(task: &Task, combiner: &mut Combiner) -> Result<Found, NoMemory>
     requires asked { IsAsked task.now.sig.now task.now.problem.now task.now.vars.now
         task.now.first }
@@ -34,11 +48,11 @@ fn run_through(task: &Task, combiner: &mut Combiner) -> Result<Found, NoMemory>
         combiner.old }
     requires all { (u : Substitution) →
         IsUnifier task.now.sig.now (problem_of task.now.problem.now) u → IsToCome combiner.old u }
-    ensures found { IfOk result (λ f.
+    ensures found { IfOk result (λ f. AsksForAllAtRefusal combiner.old f.end →
         IsFound task.now.sig.now task.now.problem.now task.now.vars.now task.now.first
         task.now.limits.unifiers task.now.limits.size f.kept f.end) }
     // What the combiner gave is kept.
-    ensures run { IfOk result (λ f.
+    ensures run { IfOk result (λ f. AsksForAllAtRefusal combiner.old f.end →
         IsRunToEnd task.now.sig.now task.now.problem.now
         (IsReached task.now.sig.now task.now.problem.now task.now.vars.now f.kept)
         combiner.old combiner.new f.end) }
@@ -61,7 +75,60 @@ fn run_through(task: &Task, combiner: &mut Combiner) -> Result<Found, NoMemory>
     }
 }
 
-// What is found of a problem that is small enough.
+// What is found of a problem that is small enough, where a more general unifier is enough for each.
+fn search_general(task: &Task) -> Result<Found, NoMemory>
+    requires asked { IsAsked task.now.sig.now task.now.problem.now task.now.vars.now
+        task.now.first }
+    requires some { 1 ≤ task.now.limits.unifiers }
+    requires limit { task.now.limits.size ≤ TERM_SYMBOLS }
+    requires small { symbols_of_pairs task.now.problem.now.pairs ≤ task.now.limits.size }
+    ensures found { IfOk result (λ f. IsNoRefusal f.end →
+        IsFound task.now.sig.now task.now.problem.now task.now.vars.now task.now.first
+        task.now.limits.unifiers task.now.limits.size f.kept f.end) }
+    ensures searched { IfOk result (λ f. IsNoRefusal f.end →
+        IsSearched task.now.sig.now task.now.problem.now
+        (IsReached task.now.sig.now task.now.problem.now task.now.vars.now f.kept)
+        task.now.first task.now.limits.size f.end) }
+{
+    let mut combiner = Combiner::most_general(
+        task.alloc,
+        task.sig,
+        task.problem,
+        task.first,
+        task.limits.size,
+    )?;
+    let f = run_through(task, &mut combiner)?;
+    Ok(f)
+}
+
+// What is found of a problem that is small enough, where all unifiers are asked for.
+fn search_all(task: &Task) -> Result<Found, NoMemory>
+    requires asked { IsAsked task.now.sig.now task.now.problem.now task.now.vars.now
+        task.now.first }
+    requires some { 1 ≤ task.now.limits.unifiers }
+    requires limit { task.now.limits.size ≤ TERM_SYMBOLS }
+    requires small { symbols_of_pairs task.now.problem.now.pairs ≤ task.now.limits.size }
+    ensures found { IfOk result (λ f.
+        IsFound task.now.sig.now task.now.problem.now task.now.vars.now task.now.first
+        task.now.limits.unifiers task.now.limits.size f.kept f.end) }
+    ensures searched { IfOk result (λ f.
+        IsSearched task.now.sig.now task.now.problem.now
+        (IsReached task.now.sig.now task.now.problem.now task.now.vars.now f.kept)
+        task.now.first task.now.limits.size f.end) }
+{
+    let mut combiner = Combiner::for_sorts(
+        task.alloc,
+        task.sig,
+        task.problem,
+        task.first,
+        task.limits.size,
+    )?;
+    let f = run_through(task, &mut combiner)?;
+    Ok(f)
+}
+
+// What is found of a problem that is small enough. First a more general unifier is enough for each; where then a sum
+// system is refused, all are asked for, since the answer says which it holds.
 pub(crate) fn search(task: &Task) -> Result<Found, NoMemory>
     requires asked { IsAsked task.now.sig.now task.now.problem.now task.now.vars.now
         task.now.first }
@@ -77,13 +144,10 @@ pub(crate) fn search(task: &Task) -> Result<Found, NoMemory>
         (IsReached task.now.sig.now task.now.problem.now task.now.vars.now f.kept)
         task.now.first task.now.limits.size f.end) }
 {
-    let mut combiner = Combiner::for_sorts(
-        task.alloc,
-        task.sig,
-        task.problem,
-        task.first,
-        task.limits.size,
-    )?;
-    let f = run_through(task, &mut combiner)?;
-    Ok(f)
+    let general = search_general(task)?;
+    if is_refusal(&general.end) {
+        let found = search_all(task)?;
+        return Ok(found);
+    }
+    Ok(general)
 }

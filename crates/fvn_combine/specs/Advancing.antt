@@ -1,5 +1,5 @@
 -- What each unifier that is given promises of those that were to come, and what an end says.
-use Rattle.std.specs.Prelude.{◌≡◌, ◌⊎◌, ◌↔◌, ℕ, List, [], ◌∷◌, Option, Some, None, Result, Ok, Err}
+use Rattle.std.specs.Prelude.{◌≡◌, ◌⊎◌, ◌↔◌, ℕ, false, List, [], ◌∷◌, Option, Some, None, Result, Ok, Err}
 use Rattle.fvn_terms.specs.declared.declarations.Declarations.{Declarations}
 use Rattle.fvn_terms.specs.Substitution.{Substitution}
 use Rattle.fvn_flat.specs.Bindings.{Bindings, value}
@@ -8,7 +8,7 @@ use Rattle.fvn_flat.specs.Solving.{problem_of, IsBasisCause, IsTooLarge}
 use Rattle.fvn_flat.specs.declared.solver.Pairs.{Pairs}
 use Rattle.fvn_combine_choices.specs.Covering.{CoversOnKinds}
 use Rattle.fvn_combine_drawing.specs.OnKinds.{IsGivenOnKinds}
-use Rattle.fvn_combine.specs.Tasks.{Combining, IsWanted}
+use Rattle.fvn_combine.specs.Tasks.{Combining, IsWanted, HoldsFor}
 use Rattle.fvn_combine.specs.Endings.{told_of}
 use Rattle.fvn_combine.specs.Search.{Search, Pending, IsEnd, IsRefusedAtLast, HasNoChoice}
 use Rattle.fvn_combine.specs.Coarser.{IsFinerToCome}
@@ -25,13 +25,13 @@ pub record IsOf (d : Declarations) (given : Pairs) (first size : ℕ) (m : Searc
   pub limit : m.combining.size ≡ size
   pub running : m.ended ≡ None
 
--- u is a unifier that is asked for, and still to come
+-- u is a unifier that is asked for; and it, or one that stands for it, is still to come
 abbrev pub IsToCome : Search → Substitution → Type 0
 IsToCome m u = IsWanted m.combining u × Pending m u
 
--- where a sum system is refused, what is to come is finer than the partition at which the search ends
+-- where a sum system is refused, and all unifiers are asked for, what is to come is finer than the partition at which the search ends
 abbrev pub IsFinerAt : Combining → (Substitution → Type 0) → Ended → Type 0
-IsFinerAt k ToCome (OfBasis f system) = IsFinerToCome k.declarations k.given f system ToCome
+IsFinerAt k ToCome (OfBasis f system) = k.general ≡ false → IsFinerToCome k.declarations k.given f system ToCome
 IsFinerAt k ToCome (OfSize list) = Unit {0}
 
 -- g covers u, with its least sorts
@@ -48,10 +48,11 @@ module _ (before after : Search) where
   abbrev pub IsToComeAsBefore : Type 0
   IsToComeAsBefore = (u : Substitution) → IsToCome before u ↔ IsToCome after u
 
-  -- what is given promises what is said of it; each unifier that was to come is covered by it, or still to come; and the search goes on
+  -- what is given promises what is said of it; each unifier that was to come, or one that stands for it, is covered by it, or it is still to
+  -- come; and the search goes on
   pub record IsGivenNext (g : Bindings) : Type 0 where
     pub given : IsGivenOnKinds before.combining.declarations before.combining.given before.combining.first before.combining.size g
-    pub covers : (u : Substitution) → IsToCome before u → IsCovered before.combining g u ⊎ IsToCome after u
+    pub covers : (u : Substitution) → IsToCome before u → HoldsFor before.combining (IsCovered before.combining g) u ⊎ IsToCome after u
     pub running : after.ended ≡ None
 
   -- no unifier was to come, and none is
@@ -61,15 +62,15 @@ module _ (before after : Search) where
     pub running : after.ended ≡ None
 
   -- what an answer of a search that has not ended says: a unifier, the end of all, a cause that holds and is kept, or want of memory,
-  -- at which the same are to come and nothing has ended; a sum system is the cause only where no question is open, and then what
-  -- is to come has all that is decided in the last state, or has apart two nodes that this state has together
+  -- at which the same are to come and nothing has ended; a sum system is the cause only where no question is open, and then, where all
+  -- unifiers are asked for, what is to come has all that is decided in the last state, or has apart two nodes that this state has together
   abbrev pub IsAdvanced : Result (Option Bindings) CombineEnd → Type 0
   IsAdvanced (Ok (Some g)) = IsGivenNext g
   IsAdvanced (Ok None) = IsOver
   IsAdvanced (Err (Basis f system)) =
       IsBasisCause before.combining.declarations before.combining.given f system × IsRefusedAtLast before.combining after.states f system
       × HasNoChoice before.combining after.leaf
-      × IsFinerToCome before.combining.declarations before.combining.given f system (IsToCome after) × IsEndedBy (OfBasis f system)
+      × IsFinerAt before.combining (IsToCome after) (OfBasis f system) × IsEndedBy (OfBasis f system)
   IsAdvanced (Err (Size list)) = IsTooLarge before.combining.declarations before.combining.given before.combining.size list.bindings × IsEndedBy (OfSize list)
   IsAdvanced (Err NoMemory) = (after.ended ≡ before.ended) × IsToComeAsBefore
 

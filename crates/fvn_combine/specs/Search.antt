@@ -1,4 +1,4 @@
--- The search for all unifiers on kinds, and what is still to come of them.
+-- The search for unifiers on kinds, and what is still to come of them.
 use Rattle.std.specs.Prelude.{◌≡◌, ◌≢◌, ◌⊎◌, ℕ, ◌<◌, List, [], ◌∷◌, ◌++◌, length, Option, Some, None, Any}
 use Rattle.fvn_terms.specs.declared.plain.OpId.{OpId}
 use Rattle.fvn_terms.specs.Substitution.{Substitution}
@@ -10,7 +10,7 @@ use Rattle.fvn_combine_nodes.specs.Unifiers.{kernel}
 use Rattle.fvn_combine_nodes.specs.declared.state.State.{State}
 use Rattle.fvn_combine_systems.specs.NodeSystems.{IsNodeSystem}
 use Rattle.fvn_combine_leaves.specs.Leaves.{IsFullLeaf}
-use Rattle.fvn_combine.specs.Tasks.{Combining, IsCombining}
+use Rattle.fvn_combine.specs.Tasks.{Combining, IsCombining, HoldsFor}
 use Rattle.fvn_combine.specs.Leaves.{IsOpened, IsCoveredToCome}
 use Rattle.fvn_combine.specs.declared.opened.Leaf.{Leaf}
 use Rattle.fvn_combine.specs.declared.ending.Ended.{Ended}
@@ -92,6 +92,10 @@ abbrev pub HasNoChoiceAt : Combining → Option Leaf → Ended → Type 0
 HasNoChoiceAt k leaf (Basis f system) = HasNoChoice k leaf
 HasNoChoiceAt k leaf (Size list) = Unit {0}
 
--- u is still to come
+-- some state admits u's partition, or the leaf that is open covers u
+abbrev pub IsLeft : Combining → List State → Option Leaf → Substitution → Type 0
+IsLeft k states leaf u = IsAdmitted k states u ⊎ IsCoveredAt k leaf u
+
+-- one that stands for u is still to come: u itself, or where more general ones are enough such a one
 abbrev pub Pending : Search → Substitution → Type 0
-Pending m u = IsAdmitted m.combining m.states u ⊎ IsCoveredAt m.combining m.leaf u
+Pending m u = HoldsFor m.combining (IsLeft m.combining m.states m.leaf) u

@@ -1,5 +1,5 @@
 -- What a combination of solvers is asked: a problem, its table of nodes, the first new number, and the most symbols.
-use Rattle.std.specs.Prelude.{◌≡◌, ℕ, ◌<◌, ◌-◌, ◌^◌, ◌≤◌, Bool, true, List}
+use Rattle.std.specs.Prelude.{◌≡◌, ℕ, ◌<◌, ◌-◌, ◌^◌, ◌≤◌, Bool, true, false, List}
 use Rattle.fvn_base.specs.declared.limits.TheConstants.{TERM_SYMBOLS}
 use Rattle.fvn_terms.specs.declared.plain.Var.{Var}
 use Rattle.fvn_terms.specs.declared.declarations.Declarations.{Declarations}
@@ -11,16 +11,18 @@ use Rattle.fvn_flat.specs.SolvedLists.{IsKindUnifier}
 use Rattle.fvn_flat.specs.declared.solver.Pairs.{Pairs}
 use Rattle.fvn_combine_nodes.specs.Table.{NodeTable, IsWellMade, IsTableOf}
 use Rattle.fvn_combine_drawing.specs.CombineBoundsNarrow.{KeepsSorts}
+use Rattle.fvn_combine_loose.specs.MoreGeneral.{IsMoreGeneral}
 use Rattle.fvn_combine_drawing.specs.CombineTriangularReady.{AreVariablesOf}
 
 -- the problem in its signature, with its table, the variables of this, the first number of a new variable, the most symbols of a value,
--- and whether the sorts of the problem's variables are heeded
+-- whether the sorts of the problem's variables are heeded, and whether of each unifier one that is more general is enough
 pub record Combining : Type 0 where
   pub declarations : Declarations
   pub given : Pairs
   pub first : ℕ
   pub size : ℕ
   pub sorted : Bool
+  pub general : Bool
   pub table : NodeTable
   pub variables : List Var
 
@@ -38,3 +40,13 @@ pub record IsCombining (k : Combining) : Type 0 where
 pub record IsWanted (k : Combining) (u : Substitution) : Type 0 where
   pub unifies : IsKindUnifier k.declarations (problem_of k.given) u
   pub keeps_sorts : k.sorted ≡ true → KeepsSorts k.declarations (variables_of (problem_of k.given)) u
+
+-- v stands for u: it is asked for, and more general than u; where all unifiers are asked for, it is u itself
+pub record StandsFor (k : Combining) (u v : Substitution) : Type 0 where
+  pub wanted : IsWanted k v
+  pub more_general : IsMoreGeneral k.declarations (variables_of (problem_of k.given)) u v
+  pub own : k.general ≡ false → v ≡ u
+
+-- this holds of some unifier that stands for u
+abbrev pub HoldsFor : Combining → (Substitution → Type 0) → Substitution → Type 0
+HoldsFor k Holds u = (v : Substitution) × StandsFor k u v × Holds v

@@ -1,5 +1,5 @@
 //! The unifiers of a problem on kinds, one after another.
-ghost use Rattle.std.specs.Prelude.{◌≡◌, ◌≤◌, ◌<◌, ◌-◌, ◌^◌, true, Some, None, IfOk, IfSome};
+ghost use Rattle.std.specs.Prelude.{◌≡◌, ◌≤◌, ◌<◌, ◌-◌, ◌^◌, true, false, Some, None, IfOk, IfSome};
 ghost use Rattle.fvn_base.specs.declared.limits.TheConstants.{TERM_SYMBOLS};
 ghost use Rattle.fvn_terms.specs.Substitution.{Substitution};
 ghost use Rattle.fvn_flat.specs.Problems.{variables_of};
@@ -17,6 +17,7 @@ use crate::ending::{CombineEnd, Ended, told};
 use crate::opened::Leaf;
 use crate::stepping::{Found, next_unifier};
 use crate::task::Task;
+use fvn_combine_loose::more_general_is_a_preorder;
 use fvn_combine_nodes::{node_partitions_are_partitions, unifiers_partition};
 use fvn_combine_systems::node_systems_are_sum_systems;
 use fvn_combine_tree::Tree;
@@ -125,11 +126,12 @@ impl<'a> Combiner<'a> {
         requires small { symbols_of_pairs problem.now.pairs ≤ TERM_SYMBOLS }
         requires size { size < 2 ^ 64 - 1 }
         ensures of { IfOk result (IsOf sig.now problem.now first_fresh size) }
+        ensures every { IfOk result (λ m. m.combining.general ≡ false) }
         // Every unifier on kinds is to come.
         ensures all { IfOk result (λ m. (u : Substitution) →
             IsKindUnifier sig.now (problem_of problem.now) u → IsToCome m u) }
     {
-        let combiner = Combiner::begun(alloc, sig, problem, first_fresh, size, false)?;
+        let combiner = Combiner::begun(alloc, sig, problem, first_fresh, size, false, false)?;
         Ok(combiner)
     }
 
@@ -148,12 +150,38 @@ impl<'a> Combiner<'a> {
         requires small { symbols_of_pairs problem.now.pairs ≤ TERM_SYMBOLS }
         requires size { size < 2 ^ 64 - 1 }
         ensures of { IfOk result (IsOf sig.now problem.now first_fresh size) }
+        ensures every { IfOk result (λ m. m.combining.general ≡ false) }
         // Every unifier on kinds that keeps the sorts of the problem's variables is to come.
         ensures all { IfOk result (λ m. (u : Substitution) →
             IsKindUnifier sig.now (problem_of problem.now) u
             → KeepsSorts sig.now (variables_of (problem_of problem.now)) u → IsToCome m u) }
     {
-        let combiner = Combiner::begun(alloc, sig, problem, first_fresh, size, true)?;
+        let combiner = Combiner::begun(alloc, sig, problem, first_fresh, size, true, false)?;
+        Ok(combiner)
+    }
+
+    /// The unifiers on kinds that keep sorts, but it is enough that of each a more general one is given.
+    ///
+    /// Whether two parts of the problem are equal is not asked where a variable that may stand for anything is in one of
+    /// them alone: a more general unifier has a new variable there, and the parts are not equal. Where a sum system is
+    /// refused, nothing is said of what was given before.
+    pub fn most_general(
+        alloc: Global,
+        sig: &'a Signature,
+        problem: &'a Pairs,
+        first_fresh: u32,
+        size: u64,
+    ) -> Result<Combiner<'a>, NoMemory>
+        requires given { IsGiven sig.now problem.now first_fresh }
+        requires small { symbols_of_pairs problem.now.pairs ≤ TERM_SYMBOLS }
+        requires size { size < 2 ^ 64 - 1 }
+        ensures of { IfOk result (IsOf sig.now problem.now first_fresh size) }
+        // Of every unifier on kinds that keeps the sorts of the problem's variables it, or one more general, is to come.
+        ensures all { IfOk result (λ m. (u : Substitution) →
+            IsKindUnifier sig.now (problem_of problem.now) u
+            → KeepsSorts sig.now (variables_of (problem_of problem.now)) u → IsToCome m u) }
+    {
+        let combiner = Combiner::begun(alloc, sig, problem, first_fresh, size, true, true)?;
         Ok(combiner)
     }
 
@@ -165,18 +193,21 @@ impl<'a> Combiner<'a> {
         first_fresh: u32,
         size: u64,
         sorted: bool,
+        general: bool,
     ) -> Result<Combiner<'a>, NoMemory>
         requires given { IsGiven sig.now problem.now first_fresh }
         requires small { symbols_of_pairs problem.now.pairs ≤ TERM_SYMBOLS }
         requires size { size < 2 ^ 64 - 1 }
         ensures of { IfOk result (IsOf sig.now problem.now first_fresh size) }
+        ensures general { IfOk result (λ m. m.combining.general ≡ general) }
         ensures all { IfOk result (λ m. (u : Substitution)
             → IsKindUnifier sig.now (problem_of problem.now) u
             → (sorted ≡ true → KeepsSorts sig.now (variables_of (problem_of problem.now)) u)
             → IsToCome m u) }
     {
         unifiers_partition();
-        let task = Task::new(alloc, sig, problem, first_fresh, size, sorted)?;
+        more_general_is_a_preorder();
+        let task = Task::new(alloc, sig, problem, first_fresh, size, sorted, general)?;
         task.recall();
         let tree = Tree::new(alloc, task.sig, &task.table)?;
         Ok(Combiner {
@@ -190,7 +221,8 @@ impl<'a> Combiner<'a> {
         })
     }
 
-    /// The next unifier, or none where every unifier that is asked for is covered by one that was given.
+    /// The next unifier, or none where every unifier that is asked for is covered by one that was given; where more
+    /// general ones are enough, such a one of each is.
     ///
     /// After an end every later call tells the same end, or want of memory. At want of memory the
     /// same unifiers are to come as before.

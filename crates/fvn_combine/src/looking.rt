@@ -1,5 +1,5 @@
 //! What the top of a decision tree asks for.
-ghost use Rattle.std.specs.Prelude.{◌≡◌, ◌<◌, length, IfOk, IfSome};
+ghost use Rattle.std.specs.Prelude.{◌≡◌, ◌<◌, length, IsTrue, IfOk, IfSome};
 ghost use Rattle.fvn_combine_tree.specs.Trees.{AreClosed};
 ghost use Rattle.fvn_combine_nodes.specs.States.{IsClosed, IsOpen, class_of};
 ghost use Rattle.fvn_combine_leaves.specs.Bases.{AreBases};
@@ -8,7 +8,7 @@ ghost use Rattle.fvn_combine_leaves.specs.Readings.{IsReading};
 ghost use Rattle.fvn_combine_choices.specs.Plans.{AreOfOneKind};
 ghost use Rattle.fvn_combine_drawing.specs.CombineCandidatesRefusals.{IsFirstRefused};
 ghost use Rattle.fvn_combine_inferring.specs.Inferred.{TellHeads};
-ghost use Rattle.fvn_combine.specs.inner.Found.{IsLooked, IsLookedAt};
+ghost use Rattle.fvn_combine.specs.inner.Found.{IsLooked, IsLookedAt, MayPart};
 
 use crate::effort::Effort;
 use crate::kinds::are_of_one_kind;
@@ -22,6 +22,7 @@ use fvn_combine_drawing::{
 };
 use fvn_combine_inferring::{Inferred, Known, differ, infer, known_of, sorted_unifiers_go_with};
 use fvn_combine_leaves::Reading;
+use fvn_combine_loose::{are_parted, loose_classes_part, loose_heights, open_identity};
 use fvn_combine_nodes::State;
 use fvn_combine_questions::{first_question, question_on_all, question_on_touched};
 use fvn_combine_reading::read;
@@ -41,6 +42,8 @@ pub(crate) enum Looked {
     Together(usize, usize),
     /// Two nodes are in different classes under all unifiers.
     Apart(usize, usize),
+    /// Each unifier of the state has a more general one, of the state too, under which two nodes are in different classes.
+    Parted(usize, usize),
     /// To be passed over: it admits no unifier.
     Passed,
     /// To end: the sum system of an operator is refused.
@@ -75,8 +78,28 @@ fn look_at_leaf(
     Ok(Looked::Leaf(leaf))
 }
 
-// An open question, or that all unifiers say no to it.
-fn asked(task: &Task, state: &State, known: &Known, i: usize, j: usize) -> Looked
+// Whether more general unifiers are enough, and a loose class of the state has two nodes apart.
+fn may_part(task: &Task, state: &State, i: usize, j: usize) -> Result<bool, NoMemory>
+    requires closed { IsClosed task.now.declarations task.now.table state.now }
+    requires left { i < length task.now.table.nodes }
+    requires right { j < length task.now.table.nodes }
+    ensures { IfOk result (λ b. IsTrue b → MayPart task.now state.now i j) }
+{
+    if !task.general {
+        return Ok(false);
+    }
+    let loose = loose_heights(task.alloc, task.sig, &task.table, state)?;
+    Ok(are_parted(task.sig, &task.table, state, loose.as_slice(), i, j))
+}
+
+// An open question, or that unifiers say no to it: all, or those that are enough.
+fn asked(
+    task: &Task,
+    state: &State,
+    known: &Known,
+    i: usize,
+    j: usize,
+) -> Result<Looked, NoMemory>
     requires closed { IsClosed task.now.declarations task.now.table state.now }
     requires heads { TellHeads task.now.declarations task.now.table state.now known.now.sorted
         known.now.heads.items }
@@ -84,15 +107,19 @@ fn asked(task: &Task, state: &State, known: &Known, i: usize, j: usize) -> Looke
     requires left { i < length task.now.table.nodes }
     requires right { j < length task.now.table.nodes }
     requires open { IsOpen state.now i j }
-    ensures { IsLookedAt task.now state.now result }
+    ensures { IfOk result (IsLookedAt task.now state.now) }
 {
     task.recall();
     tables_have_sums();
     sorted_unifiers_go_with();
+    loose_classes_part();
     if differ(task.sig, &task.table, state, known, i, j) {
-        return Looked::Apart(i, j);
+        return Ok(Looked::Apart(i, j));
     }
-    Looked::Open(i, j)
+    if may_part(task, state, i, j)? {
+        return Ok(Looked::Parted(i, j));
+    }
+    Ok(Looked::Open(i, j))
 }
 
 // What is asked for by a state that is nearly a leaf, where minimal solutions are known.
@@ -114,7 +141,10 @@ fn look_at_bases(
 {
     task.recall();
     match question_on_touched(task.sig, &task.table, state, &reading, bases.as_slice()) {
-        Some(pair) => Ok(asked(task, state, &known, pair.0, pair.1)),
+        Some(pair) => {
+            let looked = asked(task, state, &known, pair.0, pair.1)?;
+            Ok(looked)
+        }
         None => {
             let looked = look_at_leaf(task, state, reading, known, bases)?;
             Ok(looked)
@@ -156,7 +186,10 @@ fn look_at_refused(
             Ok(looked)
         }
         None => match question_on_all(task.sig, &task.table, state, &reading) {
-            Some(pair) => Ok(asked(task, state, &known, pair.0, pair.1)),
+            Some(pair) => {
+            let looked = asked(task, state, &known, pair.0, pair.1)?;
+            Ok(looked)
+        }
             None => Ok(Looked::Refused(f, system)),
         },
     }
@@ -276,7 +309,10 @@ fn look_further(
     ensures { IfOk result (IsLookedAt task.now state.now) }
 {
     match first_question(task.sig, &task.table, state, &reading, effort.is_long()) {
-        Some((i, j)) => Ok(asked(task, state, &known, i, j)),
+        Some((i, j)) => {
+            let looked = asked(task, state, &known, i, j)?;
+            Ok(looked)
+        }
         None => {
             let looked = look_at_near_leaf(task, state, reading, known, effort)?;
             Ok(looked)
@@ -285,7 +321,7 @@ fn look_further(
 }
 
 // What is asked for by a state: first what all unifiers say of it.
-fn look_at(task: &Task, state: &State, effort: &mut Effort) -> Result<Looked, NoMemory>
+fn look_within(task: &Task, state: &State, effort: &mut Effort) -> Result<Looked, NoMemory>
     requires { IsClosed task.now.declarations task.now.table state.now }
     ensures { IfOk result (IsLookedAt task.now state.now) }
 {
@@ -306,7 +342,10 @@ fn look_at(task: &Task, state: &State, effort: &mut Effort) -> Result<Looked, No
     match infer(task.alloc, task.sig, &task.table, state, &reading, &known)? {
         Inferred::Impossible => Ok(Looked::Passed),
         Inferred::Together(i, j) => Ok(Looked::Together(i, j)),
-        Inferred::Question(i, j) => Ok(Looked::Open(i, j)),
+        Inferred::Question(i, j) => {
+            let looked = worth_asking(task, state, i, j)?;
+            Ok(looked)
+        }
         Inferred::Nothing => {
             let looked = look_further(task, state, reading, known, effort)?;
             Ok(looked)
@@ -314,9 +353,57 @@ fn look_at(task: &Task, state: &State, effort: &mut Effort) -> Result<Looked, No
     }
 }
 
-// Whether what is asked for is a fact of the state, so that nothing is asked.
+// A question that is worth asking, or that the unifiers that are enough say no to it.
+fn worth_asking(task: &Task, state: &State, i: usize, j: usize) -> Result<Looked, NoMemory>
+    requires closed { IsClosed task.now.declarations task.now.table state.now }
+    requires left { i < length task.now.table.nodes }
+    requires right { j < length task.now.table.nodes }
+    requires open { IsOpen state.now i j }
+    ensures { IfOk result (IsLookedAt task.now state.now) }
+{
+    task.recall();
+    loose_classes_part();
+    if may_part(task, state, i, j)? {
+        return Ok(Looked::Parted(i, j));
+    }
+    Ok(Looked::Open(i, j))
+}
+
+// A class and an identity that the more general unifiers of a state have apart, where these are enough.
+fn parted_identity(task: &Task, state: &State) -> Result<Option<(usize, usize)>, NoMemory>
+    requires closed { IsClosed task.now.declarations task.now.table state.now }
+    ensures { IfOk result (λ o. IfSome o (λ p. MayPart task.now state.now p.0 p.1
+        × IsOpen state.now p.0 p.1)) }
+{
+    if !task.general {
+        return Ok(None);
+    }
+    let loose = loose_heights(task.alloc, task.sig, &task.table, state)?;
+    Ok(open_identity(task.sig, &task.table, state, loose.as_slice()))
+}
+
+// What is asked for by a state: first which identities its more general unifiers leave out, where these are enough.
+fn look_at(task: &Task, state: &State, effort: &mut Effort) -> Result<Looked, NoMemory>
+    requires { IsClosed task.now.declarations task.now.table state.now }
+    ensures { IfOk result (IsLookedAt task.now state.now) }
+{
+    task.recall();
+    loose_classes_part();
+    match parted_identity(task, state)? {
+        Some((i, j)) => Ok(Looked::Parted(i, j)),
+        None => {
+            let looked = look_within(task, state, effort)?;
+            Ok(looked)
+        }
+    }
+}
+
+// Whether nothing is asked: two nodes are put together or apart, and the same state is looked at again.
 fn is_fact(looked: &Looked) -> bool {
-    matches!(looked, Looked::Together(_, _) | Looked::Apart(_, _))
+    matches!(
+        looked,
+        Looked::Together(_, _) | Looked::Apart(_, _) | Looked::Parted(_, _)
+    )
 }
 
 // What the last state asks for. It is counted where that is no fact: with a fact the same state is looked at again.

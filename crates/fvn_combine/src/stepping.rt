@@ -12,6 +12,7 @@ use crate::opened::Leaf;
 use crate::task::Task;
 use crate::walking::next_in;
 use fvn_combine_drawing::Drawn;
+use fvn_combine_loose::more_general_is_a_preorder;
 use fvn_combine_nodes::unifiers_partition;
 use fvn_combine_tree::Tree;
 use fvn_flat::Subst;
@@ -55,6 +56,7 @@ fn take_step(
 {
     task.recall();
     unifiers_partition();
+    more_general_is_a_preorder();
     match look(task, tree, effort)? {
         Looked::Over => Ok(Step::Over),
         Looked::Open(i, j) => {
@@ -68,6 +70,11 @@ fn take_step(
             Ok(Step::More)
         }
         Looked::Apart(i, j) => {
+            tree.part(task.alloc, task.sig, &task.table, i, j)?;
+            *leaf = None;
+            Ok(Step::More)
+        }
+        Looked::Parted(i, j) => {
             tree.part(task.alloc, task.sig, &task.table, i, j)?;
             *leaf = None;
             Ok(Step::More)

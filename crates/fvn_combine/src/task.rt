@@ -13,7 +13,8 @@ use fvn_terms::{NoMemory, Var};
 use std::alloc::Global;
 use std::marker::Model;
 
-/// A problem in its signature, with its table, the limits on its answers, and whether sorts are heeded.
+/// A problem in its signature, with its table, the limits on its answers, whether sorts are heeded, and whether of
+/// each unifier a more general one is enough.
 #[derive(Drop)]
 pub(crate) struct Task<'a> {
     pub(crate) alloc: Global,
@@ -24,6 +25,7 @@ pub(crate) struct Task<'a> {
     pub(crate) first: u32,
     pub(crate) size: u64,
     pub(crate) sorted: bool,
+    pub(crate) general: bool,
 }
 
 impl<'a> Model for Task<'a> {
@@ -41,6 +43,7 @@ impl<'a> Model for Task<'a> {
       first = t.first;
       size = t.size;
       sorted = t.sorted;
+      general = t.general;
       table = t.table;
       variables = t.variables.items;
     } };
@@ -51,6 +54,7 @@ impl<'a> Model for Task<'a> {
       first = t.first;
       size = t.size;
       sorted = t.sorted;
+      general = t.general;
       table = t.table;
       variables = t.variables.items;
     }) };
@@ -65,6 +69,7 @@ impl<'a> Task<'a> {
         first: u32,
         size: u64,
         sorted: bool,
+        general: bool,
     ) -> Result<Task<'a>, NoMemory>
         requires given { IsGiven sig.now problem.now first }
         requires small { symbols_of_pairs problem.now.pairs ≤ TERM_SYMBOLS }
@@ -74,6 +79,7 @@ impl<'a> Task<'a> {
         ensures first { IfOk result (λ t. t.first ≡ first) }
         ensures size { IfOk result (λ t. t.size ≡ size) }
         ensures sorted { IfOk result (λ t. t.sorted ≡ sorted) }
+        ensures general { IfOk result (λ t. t.general ≡ general) }
     {
         sig.recall_good();
         let table = table_of(alloc, sig, problem)?;
@@ -88,6 +94,7 @@ impl<'a> Task<'a> {
             first,
             size,
             sorted,
+            general,
         })
     }
 

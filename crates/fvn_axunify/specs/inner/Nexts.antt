@@ -1,5 +1,5 @@
 -- What the next step of a search gives.
-use Rattle.std.specs.Prelude.{◌<◌, Some, None, Ok, Err}
+use Rattle.std.specs.Prelude.{◌≡◌, ◌<◌, false, Some, None, Ok, Err}
 use Rattle.fvn_flat.specs.declared.solver.SolveEnd.{SolveEnd}
 use Rattle.fvn_flat.specs.declared.solver.SolveEnd.TheVariants.{Complete, Basis, Unifiers, Size}
 use Rattle.fvn_flat.specs.declared.solver.SizeCause.TheVariants.{Problem, Binding, Term}
@@ -24,3 +24,17 @@ module _ (before after : Search) where
   abbrev pub IsNext : Next → Type 0
   IsNext (Given g) = IsAdvanced before after (Ok (Some g)) × (work_left after < work_left before)
   IsNext (End end) = IsLast end
+
+-- where a search ends at a refused sum system, it asked for all unifiers
+abbrev pub AsksForAllAtRefusal : Search → SolveEnd → Type 0
+AsksForAllAtRefusal m Complete = Unit {0}
+AsksForAllAtRefusal m (Basis f system) = m.combining.general ≡ false
+AsksForAllAtRefusal m Unifiers = Unit {0}
+AsksForAllAtRefusal m (Size cause) = Unit {0}
+
+-- the search did not end at a refused sum system
+abbrev pub IsNoRefusal : SolveEnd → Type 0
+IsNoRefusal Complete = Unit {0}
+IsNoRefusal (Basis f system) = ⊥
+IsNoRefusal Unifiers = Unit {0}
+IsNoRefusal (Size cause) = Unit {0}

@@ -6,15 +6,16 @@ use Rattle.fvn_flat.specs.Solving.{IsBasisCause, IsTooLarge}
 use Rattle.fvn_combine_nodes.specs.States.{Admits, IsOpen}
 use Rattle.fvn_combine_tree.specs.Trees.{weight}
 use Rattle.fvn_combine_nodes.specs.Unifiers.{kernel}
+use Rattle.fvn_combine_loose.specs.Loose.{AreParted}
 use Rattle.fvn_combine_nodes.specs.declared.state.State.{State}
 use Rattle.fvn_acunify_product.specs.Tags.{tags_left}
 use Rattle.fvn_combine_drawing.specs.OnKinds.{IsGivenOnKinds}
 use Rattle.fvn_combine_drawing.specs.declared.drawing.Drawn.{Drawn}
 use Rattle.fvn_combine_drawing.specs.declared.drawing.Drawn.TheVariants.{Nothing as NoneDrawn, TooLarge, Unifier}
-use Rattle.fvn_combine.specs.Tasks.{Combining, IsWanted}
+use Rattle.fvn_combine.specs.Tasks.{Combining, IsWanted, HoldsFor}
 use Rattle.fvn_combine.specs.Advancing.{IsCovered}
 use Rattle.fvn_combine.specs.Leaves.{IsOpened, IsCoveredLater, IsCoveredToCome}
-use Rattle.fvn_combine.specs.Search.{IsEnd, IsRefusedAt, HasNoQuestion, HasNoChoiceAt, IsAdmitted, IsOpenedAt, IsCoveredAt}
+use Rattle.fvn_combine.specs.Search.{IsEnd, IsRefusedAt, HasNoQuestion, HasNoChoiceAt, IsAdmitted, IsOpenedAt, IsCoveredAt, IsLeft}
 use Rattle.fvn_combine.specs.Work.{most_tags, most_numbers, leaf_left, left_by}
 use Rattle.fvn_combine.specs.declared.opened.Opened.{Opened}
 use Rattle.fvn_combine.specs.declared.opened.Leaf.{Leaf}
@@ -23,7 +24,7 @@ use Rattle.fvn_combine.specs.declared.stepping.Step.TheVariants.{Over as NoneLef
 use Rattle.fvn_combine.specs.declared.stepping.Found.{Found}
 use Rattle.fvn_combine.specs.declared.stepping.Found.TheVariants.{Nothing, Ends, Given}
 use Rattle.fvn_combine.specs.declared.looking.Looked.{Looked}
-use Rattle.fvn_combine.specs.declared.looking.Looked.TheVariants.{Over, Open, Together, Apart, Passed, Refused, Leaf as OnLeaf}
+use Rattle.fvn_combine.specs.declared.looking.Looked.TheVariants.{Over, Open, Together, Apart, Parted, Passed, Refused, Leaf as OnLeaf}
 
 module _ (k : Combining) (Before After : Substitution → Type 0) where
   -- nothing, where nothing was to come; bindings that are too large, with all still to come; or a unifier that covers what is no longer to come
@@ -72,9 +73,14 @@ module _ (k : Combining) where
   abbrev pub IsAdmittedBy : State → Substitution → Type 0
   IsAdmittedBy s u = IsWanted k u × Admits s (kernel k.declarations u k.table.nodes)
 
+  -- more general unifiers are enough, and a loose class parts the nodes
+  pub record MayPart (s : State) (i j : ℕ) : Type 0 where
+    pub enough : k.general ≡ true
+    pub parted : AreParted k.declarations k.table s i j
+
   -- A question is open in the state; two nodes of which it is open are in one class, or in two, under each unifier that it
-  -- admits and that is asked for; it admits none of these; none is open, and a sum system of the problem under its
-  -- partition is refused; or it is a leaf, which is opened.
+  -- admits and that is asked for; or in two under one that it admits too, and that stands for this one; it admits none of
+  -- these; none is open, and a sum system of the problem under its partition is refused; or it is a leaf, which is opened.
   abbrev pub IsLookedAt : State → Looked → Type 0
   IsLookedAt s Over = ⊥
   IsLookedAt s (Open i j) = (i < length k.table.nodes) × (j < length k.table.nodes) × IsOpen s i j
@@ -84,6 +90,10 @@ module _ (k : Combining) where
   IsLookedAt s (Apart i j) =
       (i < length k.table.nodes) × (j < length k.table.nodes) × IsOpen s i j
       × ((u : Substitution) → IsAdmittedBy s u → kernel k.declarations u k.table.nodes i ≢ kernel k.declarations u k.table.nodes j)
+  IsLookedAt s (Parted i j) =
+      (i < length k.table.nodes) × (j < length k.table.nodes) × IsOpen s i j
+      × ((u : Substitution) → IsAdmittedBy s u
+          → HoldsFor k (λ v. Admits s (kernel k.declarations v k.table.nodes) × (kernel k.declarations v k.table.nodes i ≢ kernel k.declarations v k.table.nodes j)) u)
   IsLookedAt s Passed = (u : Substitution) → IsAdmittedBy s u → ⊥
   IsLookedAt s (Refused f system) = IsBasisCause k.declarations k.given f system × IsRefusedAt k s f system
   IsLookedAt s (OnLeaf o) =
@@ -103,22 +113,24 @@ module _ (k : Combining) where
   IsLooked states (Open i j) = IsLookedAtLast states (Open i j)
   IsLooked states (Together i j) = IsLookedAtLast states (Together i j)
   IsLooked states (Apart i j) = IsLookedAtLast states (Apart i j)
+  IsLooked states (Parted i j) = IsLookedAtLast states (Parted i j)
   IsLooked states Passed = IsLookedAtLast states Passed
   IsLooked states (Refused f system) = IsLookedAtLast states (Refused f system)
   IsLooked states (OnLeaf o) = IsLookedAtLast states (OnLeaf o)
 
 module _ (k : Combining) where
-  -- u, which is asked for, is to come in these states, or at the leaf that is open
+  -- u, which is asked for, or one that stands for it, is to come in these states, or at the leaf that is open
   abbrev pub IsAhead : List State → Option Leaf → Substitution → Type 0
-  IsAhead states leaf u = IsWanted k u × (IsAdmitted k states u ⊎ IsCoveredAt k leaf u)
+  IsAhead states leaf u = IsWanted k u × HoldsFor k (IsLeft k states leaf) u
 
   module _ (states : List State) (leaf : Option Leaf) (states_after : List State) (leaf_after : Option Leaf) where
-    -- no state is left; or the tree falls, and what the states admit is to come, and no more; or the search ends here, and all is as it was
+    -- no state is left; or the tree falls, and of what is asked for just that is to come for which one stands that the states admit; or the
+    -- search ends here, and all is as it was
     abbrev pub IsStep : Step → Type 0
     IsStep NoneLeft = (states ≡ []) × (states_after ≡ states) × (leaf_after ≡ leaf)
     IsStep More =
         (weight states_after < weight states) × IsOpenedAt k leaf_after
-        × ((u : Substitution) → IsWanted k u → IsAdmitted k states u ↔ (IsAdmitted k states_after u ⊎ IsCoveredAt k leaf_after u))
+        × ((u : Substitution) → IsWanted k u → HoldsFor k (IsAdmitted k states) u ↔ HoldsFor k (IsLeft k states_after leaf_after) u)
         × (left_by k states_after leaf_after ≤ left_by k states leaf)
     IsStep (End e) = IsEnd k e × HasNoQuestion k states e × (states_after ≡ states) × (leaf_after ≡ leaf)
 
@@ -126,11 +138,11 @@ module _ (k : Combining) where
     abbrev pub IsAheadAsBefore : Type 0
     IsAheadAsBefore = (u : Substitution) → IsAhead states leaf u ↔ IsAhead states_after leaf_after u
 
-    -- nothing was to come; or the search ends here; or a unifier covers what is no longer to come
+    -- nothing was to come; or the search ends here; or a unifier covers what is no longer to come, or one that stands for it
     abbrev pub IsFound : Found → Type 0
     IsFound Nothing = ((u : Substitution) → IsAhead states leaf u → ⊥) × IsAheadAsBefore
     IsFound (Ends e) = IsEnd k e × HasNoQuestion k states_after e × HasNoChoiceAt k leaf_after e × IsAheadAsBefore
-    IsFound (Given g) = IsGivenOnKinds k.declarations k.given k.first k.size g × ((u : Substitution) → IsAhead states leaf u → IsCovered k g u ⊎ IsAhead states_after leaf_after u)
+    IsFound (Given g) = IsGivenOnKinds k.declarations k.given k.first k.size g × ((u : Substitution) → IsAhead states leaf u → HoldsFor k (IsCovered k g) u ⊎ IsAhead states_after leaf_after u)
 
     -- so it is, and at want of memory all is to come as before
     abbrev pub AreFound : Result Found NoMemory → Type 0

@@ -1,0 +1,13 @@
+//! Laws of loose classes, each the contract of a function that does nothing.
+ghost use Rattle.fvn_combine_loose.specs.Laws.{LooseClassesPart, MoreGeneralIsAPreorder};
+
+/// Where a loose class stands in one of two classes alone, each unifier of the state has a more general one under which
+/// they are apart.
+pub fn loose_classes_part()
+    ensures { LooseClassesPart }
+{}
+
+/// Being more general is a preorder.
+pub fn more_general_is_a_preorder()
+    ensures { MoreGeneralIsAPreorder }
+{}

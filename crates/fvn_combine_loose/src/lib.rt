@@ -1,0 +1,13 @@
+//! Classes of a state whose values may be new variables, so that questions on what is made from them need not be asked.
+#![tactic(auto)]
+
+mod checking;
+mod guessing;
+mod heights;
+mod laws;
+mod parting;
+mod sorts;
+
+pub use heights::loose_heights;
+pub use laws::{loose_classes_part, more_general_is_a_preorder};
+pub use parting::{are_parted, open_identity};
