@@ -93,13 +93,7 @@ fn may_part(task: &Task, state: &State, i: usize, j: usize) -> Result<bool, NoMe
 }
 
 // An open question, or that unifiers say no to it: all, or those that are enough.
-fn asked(
-    task: &Task,
-    state: &State,
-    known: &Known,
-    i: usize,
-    j: usize,
-) -> Result<Looked, NoMemory>
+fn asked(task: &Task, state: &State, known: &Known, i: usize, j: usize) -> Result<Looked, NoMemory>
     requires closed { IsClosed task.now.declarations task.now.table state.now }
     requires heads { TellHeads task.now.declarations task.now.table state.now known.now.sorted
         known.now.heads.items }
@@ -187,9 +181,9 @@ fn look_at_refused(
         }
         None => match question_on_all(task.sig, &task.table, state, &reading) {
             Some(pair) => {
-            let looked = asked(task, state, &known, pair.0, pair.1)?;
-            Ok(looked)
-        }
+                let looked = asked(task, state, &known, pair.0, pair.1)?;
+                Ok(looked)
+            }
             None => Ok(Looked::Refused(f, system)),
         },
     }
@@ -320,6 +314,22 @@ fn look_further(
     }
 }
 
+// A question that is worth asking, or that the unifiers that are enough say no to it.
+fn worth_asking(task: &Task, state: &State, i: usize, j: usize) -> Result<Looked, NoMemory>
+    requires closed { IsClosed task.now.declarations task.now.table state.now }
+    requires left { i < length task.now.table.nodes }
+    requires right { j < length task.now.table.nodes }
+    requires open { IsOpen state.now i j }
+    ensures { IfOk result (IsLookedAt task.now state.now) }
+{
+    task.recall();
+    loose_classes_part();
+    if may_part(task, state, i, j)? {
+        return Ok(Looked::Parted(i, j));
+    }
+    Ok(Looked::Open(i, j))
+}
+
 // What is asked for by a state: first what all unifiers say of it.
 fn look_within(task: &Task, state: &State, effort: &mut Effort) -> Result<Looked, NoMemory>
     requires { IsClosed task.now.declarations task.now.table state.now }
@@ -351,22 +361,6 @@ fn look_within(task: &Task, state: &State, effort: &mut Effort) -> Result<Looked
             Ok(looked)
         }
     }
-}
-
-// A question that is worth asking, or that the unifiers that are enough say no to it.
-fn worth_asking(task: &Task, state: &State, i: usize, j: usize) -> Result<Looked, NoMemory>
-    requires closed { IsClosed task.now.declarations task.now.table state.now }
-    requires left { i < length task.now.table.nodes }
-    requires right { j < length task.now.table.nodes }
-    requires open { IsOpen state.now i j }
-    ensures { IfOk result (IsLookedAt task.now state.now) }
-{
-    task.recall();
-    loose_classes_part();
-    if may_part(task, state, i, j)? {
-        return Ok(Looked::Parted(i, j));
-    }
-    Ok(Looked::Open(i, j))
 }
 
 // A class and an identity that the most general unifiers of a state have apart, where these are enough.
