@@ -1,12 +1,13 @@
 -- Which unifiers stand for others: each for itself, and what stands for one of them.
-use Rattle.std.proofs.Common.{◌≡◌, ◌≢◌, ℕ, refl, sym, ◌∙◌, Bool, true, false}
-use Rattle.std.specs.Prelude.{◌↔◌}
+use Rattle.std.proofs.Common.{◌≡◌, ◌≢◌, ℕ, refl, sym, ◌∙◌, true, Option, Some, None}
+use Rattle.std.specs.Prelude.{◌↔◌, IfSome}
 use Rattle.std.proofs.lemmas.Bool.{false≢true}
 use Rattle.fvn_terms.specs.Substitution.{Substitution}
 use Rattle.fvn_flat.specs.Solving.{problem_of}
-use Rattle.fvn_combine_nodes.specs.States.{Admits, IsClosed}
+use Rattle.fvn_combine_nodes.specs.States.{Admits, IsClosed, IsOpen}
 use Rattle.fvn_combine_nodes.specs.Unifiers.{kernel}
 use Rattle.fvn_combine_nodes.specs.declared.state.State.{State}
+use Rattle.fvn_combine_loose.specs.Loose.{ArePartedOpen}
 use Rattle.fvn_combine_loose.specs.Laws.{LooseClassesPart, MoreGeneralIsAPreorder}
 use Rattle.fvn_combine.specs.Tasks.{Combining, IsCombining, IsWanted, StandsFor, HoldsFor}
 use Rattle.fvn_combine.specs.inner.Found.{IsAdmittedBy, MayPart}
@@ -42,6 +43,11 @@ module _ (k : Combining) (is : IsCombining k) where
         },
         (loosened.admits, loosened.apart),
       )
+
+-- what a loose class parts may be parted where the most general unifiers are enough
+pub may_part_open : (k : Combining) → k.general ≡ true → (s : State) (o : Option (ℕ × ℕ)) → IfSome o (ArePartedOpen k.declarations k.table s) → IfSome o (λ p. MayPart k s p.0 p.1 × IsOpen s p.0 p.1)
+may_part_open k enough s None h = tt
+may_part_open k enough s (Some p) h = (record { enough = enough; parted = h.parted }, h.open_pair)
 
 -- what is so of each unifier that is asked for is so of one that stands for it
 pub holds_both : (k : Combining) (P Q : Substitution → Type 0) → ((v : Substitution) → IsWanted k v → P v ↔ Q v) → (u : Substitution) → IsWanted k u → HoldsFor k P u ↔ HoldsFor k Q u

@@ -5,7 +5,7 @@ use Rattle.fvn_combine_nodes.specs.States.{IsClosed}
 use Rattle.fvn_combine.specs.Tasks.{Combining}
 use Rattle.fvn_combine_inferring.specs.Inferred.{IsInferred}
 use Rattle.fvn_combine_inferring.specs.declared.inferring.Inferred.{Inferred}
-use Rattle.fvn_combine_inferring.specs.declared.inferring.Inferred.TheVariants.{Impossible, Together}
+use Rattle.fvn_combine_inferring.specs.declared.inferring.Inferred.TheVariants.{Impossible, Together, Question}
 use Rattle.fvn_combine.proofs.Inferring.{none_admitted, together_admitted}
 use Rattle.fvn_combine.proofs.looking.look_within.Goals.{In_ok-infer}
 use Rattle.fvn_combine.proofs.looking.look_within.Goals as goal
@@ -48,3 +48,8 @@ returns-in-Together c =
     let must = inferred (goal.at.returns-in-Together c).In_ok-infer (Together i j) c.in-Together.is in
     let open_pair = must.open_pair in
     (open_pair.left, open_pair.right, open_pair.undecided, together_admitted c.args.task.now c.recall.ensures c.sorted_unifiers_go_with.ensures c.args.state.now c.requires i j open_pair.left open_pair.right must.equal)
+
+pub worth_asking-requires : goal.worth_asking-requires
+worth_asking-requires c =
+    let q = inferred (goal.at.worth_asking-requires c).In_ok-infer (Question c.in-Question.i c.in-Question.j) c.in-Question.is in
+    record { closed = c.requires; left = q.left; right = q.right; «open» = q.undecided }
