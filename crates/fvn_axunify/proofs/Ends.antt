@@ -1,27 +1,33 @@
 -- A search that goes on, and one that ends.
-use Rattle.std.proofs.Common.{◌≡◌, ◌<◌, ◌≤◌, ◌⊎◌, ℕ, List, [], ◌∷◌, length, ◌∙◌, refl, sym, subst, ap, inl, inr, arith, All}
+use Rattle.std.proofs.Common.{◌≡◌, ◌<◌, ◌≤◌, ◌⊎◌, ℕ, false, List, [], ◌∷◌, length, ◌∙◌, refl, sym, subst, ap, inl, inr, arith, All}
 use Rattle.std.proofs.lemmas.List.Elements.{All-nil, All-cons, All-weaker}
 use Rattle.fvn_terms.specs.declared.plain.Var.{Var}
 use Rattle.fvn_terms.specs.declared.plain.OpId.{OpId}
 use Rattle.fvn_terms.specs.declared.declarations.Declarations.{Declarations}
 use Rattle.fvn_terms.specs.Substitution.{Substitution}
-use Rattle.fvn_terms.specs.Unifiers.{IsUnifier}
+use Rattle.fvn_terms.specs.Sorts.{IsWellSorted}
+use Rattle.fvn_terms.specs.Unifiers.{IsUnifier, IsInstance}
+use Rattle.fvn_terms.proofs.Instances.{IsInstance-trans}
 use Rattle.fvn_lindio.specs.declared.system.System.{System}
 use Rattle.fvn_flat.specs.Bindings.{Bindings, value}
 use Rattle.fvn_flat.specs.Problems.{variables_of}
-use Rattle.fvn_flat.specs.Solving.{problem_of, IsTooLarge}
+use Rattle.fvn_flat.specs.Solving.{substitution, problem_of, IsTooLarge}
+use Rattle.fvn_flat.specs.SolvedLists.{IsKindUnifier}
 use Rattle.fvn_flat.specs.declared.solver.Pairs.{Pairs}
 use Rattle.fvn_flat.specs.declared.solver.SolveEnd.{SolveEnd}
 use Rattle.fvn_flat.specs.declared.solver.SolveEnd.TheVariants.{Complete, Basis, Unifiers, Size}
 use Rattle.fvn_flat.specs.declared.solver.SizeCause.TheVariants.{Problem, Binding, Term}
 use Rattle.fvn_combine.specs.CombineChoicesCovering.{CoversOnKinds}
 use Rattle.fvn_combine.specs.CombineDrawingOnKinds.{IsGivenOnKinds}
+use Rattle.fvn_combine.specs.Tasks.{StandsFor, HoldsFor}
 use Rattle.fvn_combine.specs.Search.{Search}
 use Rattle.fvn_combine.specs.Coarser.{IsFinerToCome, Joins, JoinsMore}
-use Rattle.fvn_combine.specs.Advancing.{IsOf, IsToCome, IsGivenNext}
+use Rattle.fvn_combine.specs.Advancing.{IsOf, IsToCome, IsCovered, IsGivenNext}
 use Rattle.fvn_cover.specs.declared.variant.Variant.{Variant}
+use Rattle.fvn_cover.proofs.Leftovers.{any_contains, any_of}
+use Rattle.fvn_axunify.specs.inner.Asked.{IsAsked}
 use Rattle.fvn_axunify.specs.inner.Members.{IsKept, AreKept, IsReached, IsWithAll}
-use Rattle.fvn_axunify.specs.inner.Nexts.{IsLast}
+use Rattle.fvn_axunify.specs.inner.Nexts.{IsLast, AsksForAllAtRefusal, IsNoRefusal}
 use Rattle.fvn_axunify.specs.Coarser.{HoldsCoarser}
 use Rattle.fvn_axunify.specs.Searched.{EndsSo, IsHeldWhole, IsRun, IsRunToEnd, IsSearched}
 use Rattle.fvn_axunify.specs.inner.Found.{IsFound}
@@ -41,13 +47,33 @@ module _ (d : Declarations) (given : Pairs) (vars : List Var) (kept : List Varia
   run_begun start = record { gave = []; in_turn = refl; whole = All-nil (IsHeldWhole d given (IsReached d given vars kept)) }
 
 -- what a search did last
-pub ends_so : (last now : Search) (end : SolveEnd) → IsLast last now end → EndsSo last now end
-ends_so last now Complete h = h
-ends_so last now (Basis f system) h = h
-ends_so last now Unifiers h = absurd h
-ends_so last now (Size (Problem p)) h = h
-ends_so last now (Size (Binding list)) h = h
-ends_so last now (Size (Term t)) h = h
+pub ends_so : (last now : Search) (end : SolveEnd) → AsksForAllAtRefusal last end → IsLast last now end → EndsSo last now end
+ends_so last now Complete settled h = h
+ends_so last now (Basis f system) settled h = (h, settled)
+ends_so last now Unifiers settled h = absurd h
+ends_so last now (Size (Problem p)) settled h = h
+ends_so last now (Size (Binding list)) settled h = h
+ends_so last now (Size (Term t)) settled h = h
+
+-- a later state of a search asks for no other unifiers
+pub settled_along : (m after : Search) → after.combining.general ≡ m.combining.general → (end : SolveEnd) → AsksForAllAtRefusal m end → AsksForAllAtRefusal after end
+settled_along m after same Complete h = h
+settled_along m after same (Basis f system) h = same ∙ h
+settled_along m after same Unifiers h = h
+settled_along m after same (Size cause) h = h
+
+-- an end that is no refused sum system is settled, and each is where all unifiers are asked for
+pub no_refusal_settled : (m : Search) (end : SolveEnd) → IsNoRefusal end → AsksForAllAtRefusal m end
+no_refusal_settled m Complete h = h
+no_refusal_settled m (Basis f system) h = absurd h
+no_refusal_settled m Unifiers h = h
+no_refusal_settled m (Size cause) h = h
+
+pub every_settled : (m : Search) → m.combining.general ≡ false → (end : SolveEnd) → AsksForAllAtRefusal m end
+every_settled m every Complete = tt
+every_settled m every (Basis f system) = every
+every_settled m every Unifiers = tt
+every_settled m every (Size cause) = tt
 
 -- what is held is held by more
 module _ (d : Declarations) (given : Pairs) (Few More : Substitution → Type 0) (more : (u : Substitution) → Few u → More u) where
@@ -77,26 +103,48 @@ module _ (d : Declarations) (given : Pairs) (vars : List Var) (first most size :
   -- an end, with its cause
   pub end_found : (kept : List Variant) → AreKept d given vars first kept → length kept < most →
       ((u : Substitution) → IsUnifier d (problem_of given) u → IsReached d given vars kept u ⊎ IsToCome m u) →
-      (end : SolveEnd) → IsLast m after end → IsFound d given vars first most size kept end
-  end_found kept are few all Complete last = record { are = are; end_of = (few, λ u h. elim (all u h) [ inl r ↦ r | inr t ↦ absurd (last.none u t) ]) }
-  end_found kept are few all (Basis f system) last = record { are = are; end_of = (few, record { at = finer.at; held = held }) }
+      (end : SolveEnd) → AsksForAllAtRefusal m end → IsLast m after end → IsFound d given vars first most size kept end
+  end_found kept are few all Complete settled last = record { are = are; end_of = (few, λ u h. elim (all u h) [ inl r ↦ r | inr t ↦ absurd (last.none u t) ]) }
+  end_found kept are few all (Basis f system) settled last = record { are = are; end_of = (few, record { at = finer.at; held = held }) }
     where
       finer : IsFinerToCome d given f system (IsToCome after)
-      finer = subst (λ g. IsFinerToCome d g f system (IsToCome after)) of.problem (subst (λ e. IsFinerToCome e m.combining.given f system (IsToCome after)) of.declarations last.3)
+      finer = subst (λ g. IsFinerToCome d g f system (IsToCome after)) of.problem (subst (λ e. IsFinerToCome e m.combining.given f system (IsToCome after)) of.declarations (last.3 settled))
 
       held : (u : Substitution) → IsUnifier d (problem_of given) u → Joins d (problem_of given) finer.at.cause.class u → JoinsMore d given f system finer.at u → IsReached d given vars kept u
       held u h joins some = elim (all u h) [
         | inl r ↦ r
         | inr t ↦ absurd (finer.finer u ((last.4.kept u).0 t) joins some)
       ]
-  end_found kept are few all Unifiers last = absurd last
-  end_found kept are few all (Size (Problem p)) last = absurd last
-  end_found kept are few all (Size (Binding list)) last =
+  end_found kept are few all Unifiers settled last = absurd last
+  end_found kept are few all (Size (Problem p)) settled last = absurd last
+  end_found kept are few all (Size (Binding list)) settled last =
       record {
         are = are;
         end_of = (few, subst (λ n. IsTooLarge d given n list.bindings) of.limit (subst (λ g. IsTooLarge d g m.combining.size list.bindings) of.problem (subst (λ e. IsTooLarge e m.combining.given m.combining.size list.bindings) of.declarations last.0)));
       }
-  end_found kept are few all (Size (Term t)) last = absurd last
+  end_found kept are few all (Size (Term t)) settled last = absurd last
+
+  -- u is reached where a unifier that stands for it is
+  stands_reached : IsAsked d given vars first → (u v : Substitution) → StandsFor m.combining u v → (list : List Variant) → IsReached d given vars list v → IsReached d given vars list u
+  stands_reached asked u v stands list reached =
+      let k = any_contains (λ w. IsInstance d vars v (substitution w.subst)) list reached in
+      any_of (λ w. IsInstance d vars u (substitution w.subst)) list k.0 k.1.0 (IsInstance-trans d vars u v (substitution k.0.subst) on_vars k.1.1)
+    where
+      here : IsInstance d (variables_of (problem_of given)) u v
+      here = subst (λ p. IsInstance d (variables_of (problem_of p)) u v) of.problem (subst (λ e. IsInstance e (variables_of (problem_of m.combining.given)) u v) of.declarations stands.more_general.instance)
+
+      on_vars : IsInstance d vars u v
+      on_vars = record { after = here.after; well_sorted = here.well_sorted; equal = λ x c. here.equal x ((asked.variables x).0 c) }
+
+  -- a unifier on kinds that stands for a unifier is one
+  stands_unifies : (u v : Substitution) → StandsFor m.combining u v → IsUnifier d (problem_of given) u → IsUnifier d (problem_of given) v
+  stands_unifies u v stands h = (sorted, here.1)
+    where
+      sorted : IsWellSorted d v
+      sorted = subst (λ e. IsWellSorted e u → IsWellSorted e v) of.declarations stands.more_general.well_sorted h.0
+
+      here : IsKindUnifier d (problem_of given) v
+      here = subst (λ p. IsKindUnifier d (problem_of p) v) of.problem (subst (λ e. IsKindUnifier e (problem_of m.combining.given) v) of.declarations stands.wanted.unifies)
 
   module _ (g : Bindings) (next : IsGivenNext m after g) where
     -- what is given is given for this problem
@@ -118,17 +166,20 @@ module _ (d : Declarations) (given : Pairs) (vars : List Var) (first most size :
       }
 
     -- each unifier is reached, or still to come
-    pub goes_on : (kept with_g : List Variant) → IsWithAll d given vars first most kept g with_g → length with_g < most →
+    pub goes_on : IsAsked d given vars first → (kept with_g : List Variant) → IsWithAll d given vars first most kept g with_g → length with_g < most →
         ((u : Substitution) → IsUnifier d (problem_of given) u → IsReached d given vars kept u ⊎ IsToCome m u) →
         (u : Substitution) → IsUnifier d (problem_of given) u → IsReached d given vars with_g u ⊎ IsToCome after u
-    goes_on kept with_g w few all u h =
+    goes_on asked kept with_g w few all u h =
         elim (all u h) [
           | inl r ↦ inl (w.grows u r)
-          | inr t ↦ elim (next.covers u t) [ inl c ↦ inl (w.covered few u h (here c)) | inr s ↦ inr s ]
+          | inr t ↦ elim (next.covers u t) [ inl c ↦ inl (reached c) | inr s ↦ inr s ]
         ]
       where
-        here : CoversOnKinds m.combining.declarations (variables_of (problem_of m.combining.given)) (value g) u → CoversOnKinds d (variables_of (problem_of given)) (value g) u
-        here c = subst (λ p. CoversOnKinds d (variables_of (problem_of p)) (value g) u) of.problem (subst (λ e. CoversOnKinds e (variables_of (problem_of m.combining.given)) (value g) u) of.declarations c)
+        here : (v : Substitution) → IsCovered m.combining g v → CoversOnKinds d (variables_of (problem_of given)) (value g) v
+        here v c = subst (λ p. CoversOnKinds d (variables_of (problem_of p)) (value g) v) of.problem (subst (λ e. CoversOnKinds e (variables_of (problem_of m.combining.given)) (value g) v) of.declarations c)
+
+        reached : HoldsFor m.combining (IsCovered m.combining g) u → IsReached d given vars with_g u
+        reached (v, stands, c) = stands_reached asked u v stands with_g (w.covered few v (stands_unifies u v stands h) (here v c))
 
     -- below the limit what is given now is held whole too
     pub run_on : (start : Search) (kept with_g : List Variant) → IsWithAll d given vars first most kept g with_g → length with_g < most → IsRun d given (IsReached d given vars kept) start m

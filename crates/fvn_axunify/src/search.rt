@@ -7,7 +7,7 @@ ghost use Rattle.fvn_flat.specs.Solving.{problem_of, symbols_of_pairs};
 ghost use Rattle.fvn_combine.specs.Advancing.{IsOf, IsToCome};
 ghost use Rattle.fvn_axunify.specs.inner.Asked.{IsAsked};
 ghost use Rattle.fvn_axunify.specs.inner.Found.{IsFound};
-ghost use Rattle.fvn_axunify.specs.inner.Nexts.{IsSettled, IsNoRefusal};
+ghost use Rattle.fvn_axunify.specs.inner.Nexts.{AsksForAllAtRefusal, IsNoRefusal};
 ghost use Rattle.fvn_axunify.specs.inner.Members.{IsReached};
 ghost use Rattle.fvn_axunify.specs.Searched.{IsRunToEnd, IsSearched};
 
@@ -48,11 +48,11 @@ fn run_through(task: &Task, combiner: &mut Combiner) -> Result<Found, NoMemory>
         combiner.old }
     requires all { (u : Substitution) →
         IsUnifier task.now.sig.now (problem_of task.now.problem.now) u → IsToCome combiner.old u }
-    ensures found { IfOk result (λ f. IsSettled combiner.old f.end →
+    ensures found { IfOk result (λ f. AsksForAllAtRefusal combiner.old f.end →
         IsFound task.now.sig.now task.now.problem.now task.now.vars.now task.now.first
         task.now.limits.unifiers task.now.limits.size f.kept f.end) }
     // What the combiner gave is kept.
-    ensures run { IfOk result (λ f. IsSettled combiner.old f.end →
+    ensures run { IfOk result (λ f. AsksForAllAtRefusal combiner.old f.end →
         IsRunToEnd task.now.sig.now task.now.problem.now
         (IsReached task.now.sig.now task.now.problem.now task.now.vars.now f.kept)
         combiner.old combiner.new f.end) }

@@ -41,10 +41,10 @@ module _ (k : Combining) (is : IsCombining k) where
           more_general = loosened.more_general;
           own = λ e. absurd (false≢true (sym e ∙ may.enough));
         },
-        (loosened.admits, loosened.apart),
+        (loosened.admits, p.2),
       )
 
--- what a loose class parts may be parted where the most general unifiers are enough
+-- what a loose class parts may be parted where more general unifiers are enough
 pub may_part_open : (k : Combining) → k.general ≡ true → (s : State) (o : Option (ℕ × ℕ)) → IfSome o (ArePartedOpen k.declarations k.table s) → IfSome o (λ p. MayPart k s p.0 p.1 × IsOpen s p.0 p.1)
 may_part_open k enough s None h = tt
 may_part_open k enough s (Some p) h = (record { enough = enough; parted = h.parted }, h.open_pair)

@@ -25,7 +25,7 @@ pub record IsOf (d : Declarations) (given : Pairs) (first size : ℕ) (m : Searc
   pub limit : m.combining.size ≡ size
   pub running : m.ended ≡ None
 
--- u is a unifier that is asked for, and still to come
+-- u is a unifier that is asked for; and it, or one that stands for it, is still to come
 abbrev pub IsToCome : Search → Substitution → Type 0
 IsToCome m u = IsWanted m.combining u × Pending m u
 

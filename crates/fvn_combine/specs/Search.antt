@@ -1,4 +1,4 @@
--- The search for all unifiers on kinds, and what is still to come of them.
+-- The search for unifiers on kinds, and what is still to come of them.
 use Rattle.std.specs.Prelude.{◌≡◌, ◌≢◌, ◌⊎◌, ℕ, ◌<◌, List, [], ◌∷◌, ◌++◌, length, Option, Some, None, Any}
 use Rattle.fvn_terms.specs.declared.plain.OpId.{OpId}
 use Rattle.fvn_terms.specs.Substitution.{Substitution}
@@ -96,6 +96,6 @@ HasNoChoiceAt k leaf (Size list) = Unit {0}
 abbrev pub IsLeft : Combining → List State → Option Leaf → Substitution → Type 0
 IsLeft k states leaf u = IsAdmitted k states u ⊎ IsCoveredAt k leaf u
 
--- u, or where it is enough to give the most general unifiers one that is more general, is still to come
+-- one that stands for u is still to come: u itself, or where more general ones are enough such a one
 abbrev pub Pending : Search → Substitution → Type 0
 Pending m u = HoldsFor m.combining (IsLeft m.combining m.states m.leaf) u

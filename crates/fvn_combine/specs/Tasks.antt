@@ -15,7 +15,7 @@ use Rattle.fvn_combine_loose.specs.MoreGeneral.{IsMoreGeneral}
 use Rattle.fvn_combine_drawing.specs.CombineTriangularReady.{AreVariablesOf}
 
 -- the problem in its signature, with its table, the variables of this, the first number of a new variable, the most symbols of a value,
--- and whether the sorts of the problem's variables are heeded
+-- whether the sorts of the problem's variables are heeded, and whether of each unifier one that is more general is enough
 pub record Combining : Type 0 where
   pub declarations : Declarations
   pub given : Pairs
@@ -41,12 +41,12 @@ pub record IsWanted (k : Combining) (u : Substitution) : Type 0 where
   pub unifies : IsKindUnifier k.declarations (problem_of k.given) u
   pub keeps_sorts : k.sorted ≡ true → KeepsSorts k.declarations (variables_of (problem_of k.given)) u
 
--- v stands for u: it is asked for, and more general than u; where all unifiers are asked for it is u itself
+-- v stands for u: it is asked for, and more general than u; where all unifiers are asked for, it is u itself
 pub record StandsFor (k : Combining) (u v : Substitution) : Type 0 where
   pub wanted : IsWanted k v
   pub more_general : IsMoreGeneral k.declarations (variables_of (problem_of k.given)) u v
   pub own : k.general ≡ false → v ≡ u
 
--- so it is of a unifier that stands for u
+-- this holds of some unifier that stands for u
 abbrev pub HoldsFor : Combining → (Substitution → Type 0) → Substitution → Type 0
 HoldsFor k Holds u = (v : Substitution) × StandsFor k u v × Holds v

@@ -160,11 +160,11 @@ impl<'a> Combiner<'a> {
         Ok(combiner)
     }
 
-    /// The same, but it is enough that of each of these unifiers a more general one is given.
+    /// The unifiers on kinds that keep sorts, but it is enough that of each a more general one is given.
     ///
-    /// What parts of the problem have in common is not asked where a variable that may stand for anything is in one of them
-    /// alone: then the unifier under which it is a new variable has them apart. Where a sum system is refused, it is open
-    /// what was given before.
+    /// Whether two parts of the problem are equal is not asked where a variable that may stand for anything is in one of
+    /// them alone: a more general unifier has a new variable there, and the parts are not equal. Where a sum system is
+    /// refused, nothing is said of what was given before.
     pub fn most_general(
         alloc: Global,
         sig: &'a Signature,
@@ -176,7 +176,7 @@ impl<'a> Combiner<'a> {
         requires small { symbols_of_pairs problem.now.pairs ≤ TERM_SYMBOLS }
         requires size { size < 2 ^ 64 - 1 }
         ensures of { IfOk result (IsOf sig.now problem.now first_fresh size) }
-        // Every unifier on kinds that keeps the sorts of the problem's variables is to come.
+        // Of every unifier on kinds that keeps the sorts of the problem's variables it, or one more general, is to come.
         ensures all { IfOk result (λ m. (u : Substitution) →
             IsKindUnifier sig.now (problem_of problem.now) u
             → KeepsSorts sig.now (variables_of (problem_of problem.now)) u → IsToCome m u) }
@@ -221,7 +221,8 @@ impl<'a> Combiner<'a> {
         })
     }
 
-    /// The next unifier, or none where every unifier that is asked for is covered by one that was given.
+    /// The next unifier, or none where every unifier that is asked for is covered by one that was given; where more
+    /// general ones are enough, such a one of each is.
     ///
     /// After an end every later call tells the same end, or want of memory. At want of memory the
     /// same unifiers are to come as before.

@@ -42,7 +42,7 @@ pub(crate) enum Looked {
     Together(usize, usize),
     /// Two nodes are in different classes under all unifiers.
     Apart(usize, usize),
-    /// Two nodes are in different classes under a unifier that is more general than each of the state, and of it.
+    /// Each unifier of the state has a more general one, of the state too, under which two nodes are in different classes.
     Parted(usize, usize),
     /// To be passed over: it admits no unifier.
     Passed,
@@ -78,7 +78,7 @@ fn look_at_leaf(
     Ok(Looked::Leaf(leaf))
 }
 
-// Whether the most general unifiers are enough, and those of the state have two nodes apart.
+// Whether more general unifiers are enough, and a loose class of the state has two nodes apart.
 fn may_part(task: &Task, state: &State, i: usize, j: usize) -> Result<bool, NoMemory>
     requires closed { IsClosed task.now.declarations task.now.table state.now }
     requires left { i < length task.now.table.nodes }
@@ -363,7 +363,7 @@ fn look_within(task: &Task, state: &State, effort: &mut Effort) -> Result<Looked
     }
 }
 
-// A class and an identity that the most general unifiers of a state have apart, where these are enough.
+// A class and an identity that the more general unifiers of a state have apart, where these are enough.
 fn parted_identity(task: &Task, state: &State) -> Result<Option<(usize, usize)>, NoMemory>
     requires closed { IsClosed task.now.declarations task.now.table state.now }
     ensures { IfOk result (λ o. IfSome o (λ p. MayPart task.now state.now p.0 p.1
@@ -376,7 +376,7 @@ fn parted_identity(task: &Task, state: &State) -> Result<Option<(usize, usize)>,
     Ok(open_identity(task.sig, &task.table, state, loose.as_slice()))
 }
 
-// What is asked for by a state: first which identities its most general unifiers leave out, where these are enough.
+// What is asked for by a state: first which identities its more general unifiers leave out, where these are enough.
 fn look_at(task: &Task, state: &State, effort: &mut Effort) -> Result<Looked, NoMemory>
     requires { IsClosed task.now.declarations task.now.table state.now }
     ensures { IfOk result (IsLookedAt task.now state.now) }
@@ -392,7 +392,7 @@ fn look_at(task: &Task, state: &State, effort: &mut Effort) -> Result<Looked, No
     }
 }
 
-// Whether what is asked for is a fact of the state, so that nothing is asked.
+// Whether nothing is asked: two nodes are put together or apart, and the same state is looked at again.
 fn is_fact(looked: &Looked) -> bool {
     matches!(
         looked,

@@ -13,8 +13,8 @@ use fvn_terms::{NoMemory, Var};
 use std::alloc::Global;
 use std::marker::Model;
 
-/// A problem in its signature, with its table, the limits on its answers, whether sorts are heeded, and whether it is enough
-/// to give the most general unifiers.
+/// A problem in its signature, with its table, the limits on its answers, whether sorts are heeded, and whether of
+/// each unifier a more general one is enough.
 #[derive(Drop)]
 pub(crate) struct Task<'a> {
     pub(crate) alloc: Global,

@@ -13,19 +13,18 @@ use Rattle.fvn_combine_nodes.specs.declared.state.State.{State}
 use Rattle.fvn_combine_loose.specs.MoreGeneral.{IsMoreGeneral}
 use Rattle.fvn_combine_loose.specs.Loose.{AreParted}
 
--- v unifies on kinds, is more general than u, and has all that the state has decided; nodes i and j are apart under it
-pub record IsLoosened (d : Declarations) (problem : Problem) (t : NodeTable) (s : State) (i j : ℕ) (u v : Substitution) : Type 0 where
+-- v unifies on kinds, is more general than u, and has all that the state has decided
+pub record IsLoosened (d : Declarations) (problem : Problem) (t : NodeTable) (s : State) (u v : Substitution) : Type 0 where
   pub unifies : IsKindUnifier d problem v
   pub more_general : IsMoreGeneral d (variables_of problem) u v
   pub admits : Admits s (kernel d v t.nodes)
-  pub apart : kernel d v t.nodes i ≢ kernel d v t.nodes j
 
 -- where a loose class stands in one of two classes alone, each unifier of the state has a more general one under which they are apart
 abbrev pub LooseClassesPart : Type 0
 LooseClassesPart =
     (d : Declarations) → IsGood d → (problem : Problem) → IsProblem d problem → (t : NodeTable) → IsWellMade t → IsTableOf d problem t
     → (s : State) → IsClosed d t s → (i j : ℕ) → AreParted d t s i j → (u : Substitution) → IsKindUnifier d problem u → Admits s (kernel d u t.nodes)
-    → (v : Substitution) × IsLoosened d problem t s i j u v
+    → (v : Substitution) × IsLoosened d problem t s u v × (kernel d v t.nodes i ≢ kernel d v t.nodes j)
 
 -- each substitution is more general than itself, and what is more general than a more general one is so
 pub record MoreGeneralIsAPreorder : Type 0 where

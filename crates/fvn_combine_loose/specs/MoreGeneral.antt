@@ -7,11 +7,11 @@ use Rattle.fvn_terms.specs.Sorts.{HasSort, IsWellSorted}
 use Rattle.fvn_terms.specs.Unifiers.{IsInstance}
 
 -- the substitution gives these variables terms of their sorts
-abbrev pub GivesSorts : Declarations → List Var → Substitution → Type 0
-GivesSorts d vars s = (x : Var) → Contains vars x → HasSort d (s x) x.sort
+abbrev pub KeepsSorts : Declarations → List Var → Substitution → Type 0
+KeepsSorts d vars s = (x : Var) → Contains vars x → HasSort d (s x) x.sort
 
--- on these variables u is an instance of v, and v keeps sorts where u does
+-- v is more general than u: on these variables u is an instance of it, and it keeps sorts where u does
 pub record IsMoreGeneral (d : Declarations) (vars : List Var) (u v : Substitution) : Type 0 where
   pub instance : IsInstance d vars u v
-  pub sorts : GivesSorts d vars u → GivesSorts d vars v
+  pub sorts : KeepsSorts d vars u → KeepsSorts d vars v
   pub well_sorted : IsWellSorted d u → IsWellSorted d v

@@ -1,1 +1,3 @@
 -- What mirrors the code.
+pub mod Checks
+pub mod NodeSorts

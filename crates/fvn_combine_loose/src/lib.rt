@@ -1,6 +1,8 @@
 //! Classes of a state whose values may be new variables, so that questions on what is made from them need not be asked.
 #![tactic(auto)]
 
+mod checking;
+mod guessing;
 mod heights;
 mod laws;
 mod parting;

@@ -126,6 +126,10 @@ unify | _`,_(X,Y:Bag) =? a ==> 0 | {X:Bag --> a, Y:Bag --> none} | {X:Bag --> no
 unify | X =? _`,_(X,Y:Bag) ==> 0 | {X:Bag --> #1:Bag, Y:Bag --> none} | complete 1
 unify | X =? none ==> 0 | {X:Bag --> none} | complete 1
 
+fmod SUMS is sort S . ops b 0 1 : -> S . op _&_ : S S -> S [assoc comm id: 0] . op _*_ : S S -> S [assoc comm id: 1] . endfm <=
+unify | Z:S =? _*_(_&_(V:S,b),Y:S) ==> 0 | {Z:S --> _*_(#1:S,_&_(#2:S,b)), V:S --> #2:S, Y:S --> #1:S} | complete 1
+unify | Z1:S =? _*_(_&_(V1:S,W1:S),_&_(X1:S,Y1:S),_&_(U1:S,b)) /\\ Z2:S =? _*_(_&_(V2:S,W2:S),_&_(X2:S,Y2:S),_&_(U2:S,b)) /\\ Z3:S =? _*_(_&_(V3:S,W3:S),_&_(X3:S,Y3:S),_&_(U3:S,b)) /\\ Z4:S =? _*_(_&_(V4:S,W4:S),_&_(X4:S,Y4:S),_&_(U4:S,b)) /\\ Z5:S =? _*_(_&_(V5:S,W5:S),_&_(X5:S,Y5:S),_&_(U5:S,b)) /\\ Z6:S =? _*_(_&_(V6:S,W6:S),_&_(X6:S,Y6:S),_&_(U6:S,b)) ==> 0 | 1 lines | complete 1
+
 fmod XOR is sorts Nat NatSet . subsort Nat < NatSet . op 0 : -> Nat [ctor] . op s : Nat -> Nat [ctor] . op mt : -> NatSet [ctor] . op _*_ : NatSet NatSet -> NatSet [ctor assoc comm] . vars X Y Z : [NatSet] . eq [idem] : _*_(X,X) = mt [variant] . eq [idem-Coh] : _*_(X,X,Z) = Z [variant] . eq [id] : _*_(X,mt) = X [variant] . endfm <=
 unify | _*_(X,X) =? mt ==> 1 | complete 0
 unify | X =? _*_(Y,Z) ==> 0 | {X:[NatSet] --> _*_(#1:[NatSet],#2:[NatSet]), Y:[NatSet] --> #1:[NatSet], Z:[NatSet] --> #2:[NatSet]} | complete 1

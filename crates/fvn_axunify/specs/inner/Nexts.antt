@@ -26,11 +26,11 @@ module _ (before after : Search) where
   IsNext (End end) = IsLast end
 
 -- where a search ends at a refused sum system, it asked for all unifiers
-abbrev pub IsSettled : Search → SolveEnd → Type 0
-IsSettled m Complete = Unit {0}
-IsSettled m (Basis f system) = m.combining.general ≡ false
-IsSettled m Unifiers = Unit {0}
-IsSettled m (Size cause) = Unit {0}
+abbrev pub AsksForAllAtRefusal : Search → SolveEnd → Type 0
+AsksForAllAtRefusal m Complete = Unit {0}
+AsksForAllAtRefusal m (Basis f system) = m.combining.general ≡ false
+AsksForAllAtRefusal m Unifiers = Unit {0}
+AsksForAllAtRefusal m (Size cause) = Unit {0}
 
 -- the search did not end at a refused sum system
 abbrev pub IsNoRefusal : SolveEnd → Type 0

@@ -73,14 +73,14 @@ module _ (k : Combining) where
   abbrev pub IsAdmittedBy : State → Substitution → Type 0
   IsAdmittedBy s u = IsWanted k u × Admits s (kernel k.declarations u k.table.nodes)
 
-  -- the most general unifiers are enough, and a loose class parts the nodes
+  -- more general unifiers are enough, and a loose class parts the nodes
   pub record MayPart (s : State) (i j : ℕ) : Type 0 where
     pub enough : k.general ≡ true
     pub parted : AreParted k.declarations k.table s i j
 
   -- A question is open in the state; two nodes of which it is open are in one class, or in two, under each unifier that it
-  -- admits and that is asked for; where the most general unifiers are enough, they are so under one that stands for it; it admits none of these; none is open, and a sum system of the problem under its
-  -- partition is refused; or it is a leaf, which is opened.
+  -- admits and that is asked for; or in two under one that it admits too, and that stands for this one; it admits none of
+  -- these; none is open, and a sum system of the problem under its partition is refused; or it is a leaf, which is opened.
   abbrev pub IsLookedAt : State → Looked → Type 0
   IsLookedAt s Over = ⊥
   IsLookedAt s (Open i j) = (i < length k.table.nodes) × (j < length k.table.nodes) × IsOpen s i j
@@ -124,7 +124,8 @@ module _ (k : Combining) where
   IsAhead states leaf u = IsWanted k u × HoldsFor k (IsLeft k states leaf) u
 
   module _ (states : List State) (leaf : Option Leaf) (states_after : List State) (leaf_after : Option Leaf) where
-    -- no state is left; or the tree falls, and what the states admit is to come, and no more; or the search ends here, and all is as it was
+    -- no state is left; or the tree falls, and of what is asked for just that is to come for which one stands that the states admit; or the
+    -- search ends here, and all is as it was
     abbrev pub IsStep : Step → Type 0
     IsStep NoneLeft = (states ≡ []) × (states_after ≡ states) × (leaf_after ≡ leaf)
     IsStep More =
@@ -137,7 +138,7 @@ module _ (k : Combining) where
     abbrev pub IsAheadAsBefore : Type 0
     IsAheadAsBefore = (u : Substitution) → IsAhead states leaf u ↔ IsAhead states_after leaf_after u
 
-    -- nothing was to come; or the search ends here; or a unifier covers what is no longer to come
+    -- nothing was to come; or the search ends here; or a unifier covers what is no longer to come, or one that stands for it
     abbrev pub IsFound : Found → Type 0
     IsFound Nothing = ((u : Substitution) → IsAhead states leaf u → ⊥) × IsAheadAsBefore
     IsFound (Ends e) = IsEnd k e × HasNoQuestion k states_after e × HasNoChoiceAt k leaf_after e × IsAheadAsBefore

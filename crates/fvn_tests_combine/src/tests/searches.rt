@@ -110,3 +110,33 @@ search f A1 l o A2 m k = f A3 l o A4 m k => few | 7 4";
 fn possible_heads_are_seen(rt: HostRuntime) -> Result<(), NoMemory> {
     assert_rows(&rt, rt.alloc(), OPERATORS, SEARCHED_OF_HEADS)
 }
+
+// One sort A; constants f, g and j, a sum h with the identity f, a sum i with the identity g, and a sum k with none.
+const SUMS: &str =
+    "A; f : -> A; g : -> A; h : A A -> A [assoc comm id: f]; i : A A -> A [assoc comm id: g]; j : -> A; k : A A -> A [assoc comm]";
+
+// Problems that are solved as they stand, beside each other and one within another: each has one most general unifier,
+// under which each variable of a sum is a new one, so that nothing is asked of what only such variables tell apart. Then
+// the same beside a sum that has seven unifiers, and beside sums that share variables, where questions are left.
+const SOLVED_AS_THEY_STAND: &str = "general A0 = A1 A2 h A3 A4 h i A5 j h i => few | 2 2
+general A0 = A1 A2 h A3 A4 h i A5 j h i; A6 = A7 A8 h A9 Ab h i Ac j h i => few | 2 2
+general A0 = A1 A2 h A3 A4 h i A5 j h i; A6 = A7 A8 h A9 Ab h i Ac j h i; Ad = Ae Af h Ag Ah h i Ai j h i => few | 2 2
+general A0 A1 h j A2 h i A3 h j A4 h i = A5 => few | 2 2
+general A0 A1 h j A2 h i A3 h j A4 h i A5 h j A6 h i A7 h j A8 h i = A9 => few | 2 2
+general A0 A1 k = A2 A3 k; A4 = A3 A5 h A6 A7 h i A8 j h i => few | 2 40
+general A0 A1 h = A2 A3 h; A0 A4 i = A2 A5 i => few | 4 24
+100 200 A0 = A1 A2 h A3 A4 h i A5 j h i => complete 1
+100 200 A0 = A1 A2 h A3 A4 h i A5 j h i; A6 = A7 A8 h A9 Ab h i Ac j h i; Ad = Ae Af h Ag Ah h i Ai j h i => complete 1
+100 200 A0 A1 h j A2 h i A3 h j A4 h i A5 h j A6 h i A7 h j A8 h i = A9 => complete 1
+100 200 A0 A1 k = A2 A3 k; A4 = A3 A5 h A6 A7 h i A8 j h i => complete 7
+100 200 A0 A1 h = A2 A3 h; A0 A4 i = A2 A5 i => complete 3";
+
+// An element is no sum of two: there a variable may not be a new one, and both are found.
+const SOLVED_OF_ELEMENTS: &str = "general B0 B1 t = A2 => few | 2 4
+100 200 B0 B1 t = A2 => complete 2";
+
+#[test]
+fn what_is_solved_as_it_stands_stays_short(rt: HostRuntime) -> Result<(), NoMemory> {
+    assert_rows(&rt, rt.alloc(), SUMS, SOLVED_AS_THEY_STAND)?;
+    assert_rows(&rt, rt.alloc(), BAGS, SOLVED_OF_ELEMENTS)
+}

@@ -38,12 +38,33 @@ fn counted(combiner: &mut Combiner) -> Result<(u64, u64), NoMemory> {
     Ok((combiner.states_asked(), combiner.choices_tried()))
 }
 
-/// The same of a problem, as a solver has it searched.
-fn counted_of(alloc: Global, sig: &Signature, problem: &Pairs) -> Result<(u64, u64), NoMemory>
+/// A search as a solver has it: for most general unifiers, or for all that keep sorts.
+fn begun<'a>(
+    alloc: Global,
+    sig: &'a Signature,
+    problem: &'a Pairs,
+    general: bool,
+) -> Result<Combiner<'a>, NoMemory>
     requires given { IsGiven sig.now problem.now 0 }
     requires small { symbols_of_pairs problem.now.pairs ≤ TERM_SYMBOLS }
 {
-    let mut combiner = Combiner::for_sorts(alloc, sig, problem, 0, 200)?;
+    if general {
+        return Combiner::most_general(alloc, sig, problem, 0, 200);
+    }
+    Combiner::for_sorts(alloc, sig, problem, 0, 200)
+}
+
+/// The same of a problem.
+fn counted_of(
+    alloc: Global,
+    sig: &Signature,
+    problem: &Pairs,
+    general: bool,
+) -> Result<(u64, u64), NoMemory>
+    requires given { IsGiven sig.now problem.now 0 }
+    requires small { symbols_of_pairs problem.now.pairs ≤ TERM_SYMBOLS }
+{
+    let mut combiner = begun(alloc, sig, problem, general)?;
     counted(&mut combiner)
 }
 
@@ -62,13 +83,19 @@ fn shown_counts(alloc: Global, counts: (u64, u64), most: &str) -> Result<String,
 }
 
 /// The same of pairs, where they may be given.
-fn shown_of(alloc: Global, sig: &Signature, problem: &Pairs, most: &str) -> Result<String, NoMemory>
+fn shown_of(
+    alloc: Global,
+    sig: &Signature,
+    problem: &Pairs,
+    general: bool,
+    most: &str,
+) -> Result<String, NoMemory>
     requires { All (λ p. Fits sig.now p.0 × Fits sig.now p.1) problem.now.pairs }
 {
     if !is_given(alloc, sig, problem)? {
         return Ok(String::from_str(alloc, "not given")?);
     }
-    let counts = counted_of(alloc, sig, problem)?;
+    let counts = counted_of(alloc, sig, problem, general)?;
     shown_counts(alloc, counts, most)
 }
 
@@ -77,10 +104,11 @@ pub fn shown_searched(
     alloc: Global,
     sig: &Signature,
     text: &str,
+    general: bool,
     most: &str,
 ) -> Result<String, NoMemory> {
     match problem_of(alloc, sig, text)? {
-        Some(problem) => shown_of(alloc, sig, &problem, most),
+        Some(problem) => shown_of(alloc, sig, &problem, general, most),
         None => Ok(String::from_str(alloc, "not read")?),
     }
 }

@@ -217,11 +217,24 @@ const SOLVED_OF_RINGS: &str = "100 200 A0 A1 h A2 i = j => complete 4
 100 200 A0 A1 h A0 k = A2 A0 i => complete 2
 100 200 A0 A1 h A2 k = A0 A2 i => complete 1";
 
-/// What is shown of a row: of a search, where its text begins with this word, else of a solver.
+/// What is shown of a row: of a search for most general unifiers, where its text begins with this word, else of a solver.
+fn shown_of_general(
+    alloc: Global,
+    sig: &Signature,
+    text: &str,
+    known: &str,
+) -> Result<String, NoMemory> {
+    match text.strip_prefix("general ") {
+        Some(problem) => shown_searched(alloc, sig, problem, true, known),
+        None => shown_solved(alloc, sig, text, known),
+    }
+}
+
+/// The same, and of a search for all unifiers, where its text begins with this word.
 fn shown_row(alloc: Global, sig: &Signature, text: &str, known: &str) -> Result<String, NoMemory> {
     match text.strip_prefix("search ") {
-        Some(problem) => shown_searched(alloc, sig, problem, known),
-        None => shown_solved(alloc, sig, text, known),
+        Some(problem) => shown_searched(alloc, sig, problem, false, known),
+        None => shown_of_general(alloc, sig, text, known),
     }
 }
 

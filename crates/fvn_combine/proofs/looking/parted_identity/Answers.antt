@@ -1,4 +1,4 @@
--- What is parted is so in the task, where the most general unifiers are enough.
+-- What is parted is so in the task, where more general unifiers are enough.
 use Rattle.std.proofs.Common.{◌≡◌, true, sym, subst}
 use Rattle.std.specs.Prelude.{IfSome}
 use Rattle.fvn_combine_nodes.specs.States.{IsClosed}

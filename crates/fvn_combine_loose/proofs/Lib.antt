@@ -1,0 +1,16 @@
+-- Lemmas of loose classes, of what is checked of guessed heights, and of substitutions that are more general than a unifier.
+mod Decisions
+mod Mapped
+mod Setting
+mod Deep
+mod NewVariable
+mod Worths
+mod Remade
+mod After
+mod Loosened
+mod Admitted
+mod GivenSorts
+mod Loosening
+mod Preorder
+mod Checked
+mod Ranked

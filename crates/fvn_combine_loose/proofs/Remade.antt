@@ -1,0 +1,97 @@
+-- The new values of nodes: those of their classes.
+use Rattle.std.proofs.Common.{◌≡◌, ◌≢◌, ℕ, zero, suc, ◌<◌, ◌≤◌, List, [], ◌∷◌, length, map, refl, ap, ◌∙◌, sym, subst, inl, inr, arith, Contains}
+use Rattle.std.proofs.lemmas.Bool.{cases_order}
+use Rattle.fvn_base.specs.Decided.{Decided}
+use Rattle.fvn_terms.specs.declared.plain.OpId.{OpId}
+use Rattle.fvn_terms.specs.declared.declarations.Declarations.{Declarations}
+use Rattle.fvn_terms.specs.Term.{Term, var, app, pack}
+use Rattle.fvn_terms.specs.Substitution.{Substitution, apply, Occurs}
+use Rattle.fvn_terms.specs.Equality.{BEqual}
+use Rattle.fvn_terms.specs.Unifiers.{Problem}
+use Rattle.fvn_combine_nodes.specs.Table.{NodeTable, IsOver, term_at}
+use Rattle.fvn_combine_nodes.specs.Classes.{AreTogether}
+use Rattle.fvn_combine_nodes.specs.States.{class_of}
+use Rattle.fvn_combine_nodes.specs.declared.state.State.{State}
+use Rattle.fvn_combine_loose.specs.Loose.{height_of, IsHeaded}
+use Rattle.fvn_combine_loose.proofs.Mapped.{mapped_among}
+use Rattle.fvn_combine_loose.proofs.Setting.{Setting, class_within, class_again, one_value, same_height, argument_within, argument_at}
+use Rattle.fvn_combine_loose.proofs.NewVariable.{new, not_in_old}
+use Rattle.fvn_combine_loose.proofs.Worths.{worth, worth_low, worth_bottom, worth_headed}
+
+-- two numbers are one or not
+pub same_or_other : (a b : ℕ) → Decided (a ≡ b)
+same_or_other a b = elim (cases_order a b) as (λ _. Decided (a ≡ b)) [
+  | inl e ↦ inl e
+  | inr o ↦ inr (λ e. elim o as (λ _. ⊥) [
+    | inl l ↦ omega (arith, l, e)
+    | inr m ↦ omega (arith, m, e)
+  ])
+]
+
+module _ {d : Declarations} {problem : Problem} {t : NodeTable} {s : State} {z : ℕ} {heights : List ℕ} {u : Substitution} (g : Setting d problem t s z heights u) where
+  abbrev height : ℕ → ℕ
+  height = height_of d t s z heights
+
+  -- the new value of node i
+  abbrev pub remade : ℕ → Term
+  remade i = worth g (class_of s i)
+
+  pub remade_same : (i j : ℕ) → class_of s i ≡ class_of s j → remade i ≡ remade j
+  remade_same i j e = ap (worth g) e
+
+  -- where the loose class does not stand, it is the old one, up to the axioms
+  pub remade_low_is : (i : ℕ) → i < length t.nodes → height i ≡ 0 → remade i ≡ apply u (term_at t.nodes (class_of s i))
+  remade_low_is i l low = worth_low g (class_of s i) (same_height g (class_of s i) i (class_again g i l) ∙ low)
+
+  pub remade_low : (i : ℕ) → i < length t.nodes → height i ≡ 0 → BEqual d (apply u (term_at t.nodes i)) (remade i)
+  remade_low i l low =
+      subst (BEqual d (apply u (term_at t.nodes i))) (sym (remade_low_is i l low)) (one_value g i (class_of s i) l (class_within g i l) (sym (class_again g i l)))
+
+  pub remade_bottom : (i : ℕ) → i < length t.nodes → class_of s i ≡ class_of s z → remade i ≡ var (new g)
+  remade_bottom i l e = worth_bottom g (class_of s i) (class_within g i l) (class_again g i l ∙ e)
+
+  -- elsewhere it is a member's operator over new values
+  pub remade_headed : (i : ℕ) → i < length t.nodes → 0 < height i → class_of s i ≢ class_of s z → (m : IsHeaded d t s i) × (remade i ≡ app m.operator (pack (map remade m.arguments)))
+  remade_headed i l stands other =
+      let again = class_again g i l in
+      let e = same_height g (class_of s i) i again in
+      let h = worth_headed g (class_of s i) (class_within g i l) (omega (arith, e, stands)) (λ f. other (sym again ∙ f)) in
+      (record { member = h.0.member; operator = h.0.operator; arguments = h.0.arguments; over = h.0.over; of = h.0.of ∙ again }, h.1)
+
+  remade_together : (ks ls : List ℕ) → AreTogether (class_of s) ks ls → map remade ks ≡ map remade ls
+  remade_together [] [] e = refl
+  remade_together [] (l ∷ ls) e = cc
+  remade_together (k ∷ ks) [] e = cc
+  remade_together (k ∷ ks) (l ∷ ls) e =
+      let first : class_of s k ≡ class_of s l = cc in
+      let rest : map (class_of s) ks ≡ map (class_of s) ls = cc in
+      let a : remade k ≡ remade l = remade_same k l first in
+      let b : map remade ks ≡ map remade ls = remade_together ks ls rest in
+      cc
+
+  -- that of an operator in which the loose class stands is the operator over the new values of its arguments
+  pub remade_over : (i : ℕ) (f : OpId) (ks : List ℕ) → IsOver t.nodes i f ks → i < length t.nodes → 0 < height i → remade i ≡ app f (pack (map remade ks))
+  remade_over i f ks over l stands =
+      let r = remade_headed i l stands (λ e. g.loose.open_class record { member = i; operator = f; arguments = ks; over = over; of = e }) in
+      let e = same_height g r.0.member i r.0.of in
+      let a = g.loose.alike r.0.member i r.0.operator f r.0.arguments ks r.0.over over r.0.of (omega (arith, e, stands)) in
+      r.1 ∙ ap (λ o. app o (pack (map remade r.0.arguments))) a.0 ∙ ap (λ ts. app f (pack ts)) (remade_together r.0.arguments ks a.1)
+
+  -- the new variable stands in the new values of those in which the loose class stands, and in no others
+  pub new_stands : (n i : ℕ) → height i ≤ n → i < length t.nodes → 0 < height i → Occurs (new g) (remade i)
+  new_stands zero i h l stands = absurd (omega (arith, h, stands))
+  new_stands (suc n) i h l stands = go (same_or_other (class_of s i) (class_of s z)) (λ k a b c. new_stands n k a b c)
+    where
+      go : Decided (class_of s i ≡ class_of s z) → ((k : ℕ) → height k ≤ n → k < length t.nodes → 0 < height k → Occurs (new g) (remade k)) → Occurs (new g) (remade i)
+      go (inl e) before = subst (Occurs (new g)) (sym (remade_bottom i l e)) refl
+      go (inr other) before =
+          let r = remade_headed i l stands other in
+          let e = same_height g r.0.member i r.0.of in
+          let some = g.loose.over r.0.member r.0.operator r.0.arguments r.0.over (omega (arith, e, stands)) in
+          let k = some.1 in
+          let c : Contains r.0.arguments k = (some.0, some.2, some.3) in
+          let low = argument_at g r.0.member r.0.operator r.0.arguments r.0.over k c n (omega (arith, e, h)) in
+          subst (Occurs (new g)) (sym r.1) (mapped_among remade (new g) r.0.arguments k c (before k low (argument_within g r.0.member r.0.operator r.0.arguments r.0.over k c) some.4))
+
+  pub new_stands_not : (i : ℕ) → i < length t.nodes → height i ≡ 0 → Occurs (new g) (remade i) → ⊥
+  new_stands_not i l low o = not_in_old g (class_of s i) (class_within g i l) (subst (Occurs (new g)) (remade_low_is i l low) o)

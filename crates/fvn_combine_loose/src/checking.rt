@@ -1,0 +1,323 @@
+//! Whether guessed heights are those of the classes in which a loose class stands.
+ghost use Rattle.std.specs.Prelude.{◌≡◌, ℕ, ◌<◌, length, slice_index_or, None, All, IsTrue};
+ghost use Rattle.fvn_combine_nodes.specs.Classes.{AreTogether};
+ghost use Rattle.fvn_combine_nodes.specs.States.{IsClosed, class_of};
+ghost use Rattle.fvn_combine_loose.specs.Loose.{IsLoose};
+ghost use Rattle.fvn_combine_loose.specs.inner.Checks.{height_in, IsHighest, IsRaised, AreRaised, IsVariable, AreOver, IsLike, IsNoted, IsBuilt, AreOfSort, IsOfSort, IsSorted};
+ghost use Rattle.fvn_combine_loose.specs.inner.NodeSorts.{HaveSorts};
+
+use crate::sorts::has_sort;
+use fvn_combine_nodes::{Node, State, Table};
+use fvn_signature::Signature;
+use fvn_terms::{OpId, SortId};
+
+// The height of the class of node i.
+pub(crate) fn height_at(state: &State, heights: &[usize], i: usize) -> usize
+    requires { i < length state.now.names }
+    ensures { result ≡ height_in state.now heights.now i }
+{
+    match heights.get(state.class_of(i)) {
+        None => 0,
+        Some(height) => *height,
+    }
+}
+
+// The node that is noted to head the class of node i.
+pub(crate) fn head_at(state: &State, heads: &[Option<usize>], i: usize) -> Option<usize>
+    requires { i < length state.now.names }
+    ensures { result ≡ slice_index_or heads.now (class_of state.now i) None }
+{
+    match heads.get(state.class_of(i)) {
+        None => None,
+        Some(head) => *head,
+    }
+}
+
+// The greatest height of the classes of these nodes.
+pub(crate) fn highest(state: &State, heights: &[usize], ks: &[usize]) -> usize
+    requires { All (λ k. k < length state.now.names) ks.now }
+    ensures { IsHighest state.now heights.now ks.now result }
+{
+    let mut high = 0;
+    for k in ks {
+        high = high.max(height_at(state, heights, *k));
+    }
+    high
+}
+
+// Whether the class of node i is above those of the nodes ks in which the bottom stands, and it stands in none of them
+// where it does not stand in it.
+fn is_raised(state: &State, heights: &[usize], i: usize, ks: &[usize]) -> bool
+    requires within { i < length state.now.names }
+    requires all { All (λ k. k < length state.now.names) ks.now }
+    ensures { IsTrue result → IsRaised state.now heights.now i ks.now }
+{
+    let high = highest(state, heights, ks);
+    let own = height_at(state, heights, i);
+    if high == 0 {
+        return own == 0;
+    }
+    high < own
+}
+
+// The same of node i and its arguments.
+fn are_raised(table: &Table, state: &State, heights: &[usize], i: usize) -> bool
+    requires whole { length state.now.names ≡ length table.now.nodes }
+    requires within { i < length table.now.nodes }
+    ensures { IsTrue result → AreRaised table.now state.now heights.now i }
+{
+    table.recall_well_made();
+    match table.node(i) {
+        Node::Var(_) => true,
+        Node::App(_, ks) => is_raised(state, heights, i, ks.as_slice()),
+    }
+}
+
+// Whether node i is a variable.
+fn is_variable(table: &Table, i: usize) -> bool
+    requires { i < length table.now.nodes }
+    ensures { IsTrue result → IsVariable table.now i }
+{
+    match table.node(i) {
+        Node::Var(_) => true,
+        Node::App(_, _) => false,
+    }
+}
+
+// Whether the nodes of two lists are in one class place by place.
+fn are_together(state: &State, ks: &[usize], ls: &[usize]) -> bool
+    requires left { All (λ k. k < length state.now.names) ks.now }
+    requires right { All (λ k. k < length state.now.names) ls.now }
+    ensures { IsTrue result → AreTogether (class_of state.now) ks.now ls.now }
+{
+    if ks.len() != ls.len() {
+        return false;
+    }
+    for i in 0..ks.len() {
+        if state.class_of(ks[i]) != state.class_of(ls[i]) {
+            return false;
+        }
+    }
+    true
+}
+
+// Whether node i is a variable, or this operator over the classes of these nodes.
+fn is_over(table: &Table, state: &State, i: usize, g: OpId, ls: &[usize]) -> bool
+    requires whole { length state.now.names ≡ length table.now.nodes }
+    requires within { i < length table.now.nodes }
+    requires all { All (λ k. k < length table.now.nodes) ls.now }
+    ensures { IsTrue result → AreOver table.now state.now i g ls.now }
+{
+    table.recall_well_made();
+    match table.node(i) {
+        Node::Var(_) => true,
+        Node::App(f, ks) => {
+            if *f != g {
+                return false;
+            }
+            are_together(state, ks.as_slice(), ls)
+        }
+    }
+}
+
+// Whether an operator heads node m, which is in the class of node i, and node i is a variable, or is it over the same
+// classes.
+pub(crate) fn is_like(table: &Table, state: &State, m: usize, i: usize) -> bool
+    requires whole { length state.now.names ≡ length table.now.nodes }
+    requires within { i < length table.now.nodes }
+    ensures { IsTrue result → IsLike table.now state.now m i }
+{
+    table.recall_well_made();
+    if m >= table.nodes().len() {
+        return false;
+    }
+    if state.class_of(m) != state.class_of(i) {
+        return false;
+    }
+    match table.node(m) {
+        Node::Var(_) => false,
+        Node::App(g, ls) => is_over(table, state, i, *g, ls.as_slice()),
+    }
+}
+
+// Whether node i is like the node that is noted to head its class.
+fn is_noted(table: &Table, state: &State, heads: &[Option<usize>], i: usize) -> bool
+    requires whole { length state.now.names ≡ length table.now.nodes }
+    requires within { i < length table.now.nodes }
+    ensures { IsTrue result → IsNoted table.now state.now heads.now i }
+{
+    match head_at(state, heads, i) {
+        None => false,
+        Some(m) => is_like(table, state, m, i),
+    }
+}
+
+// Whether node i is what it must be where node z's class is loose, but for its sort.
+fn is_built_at(
+    table: &Table,
+    state: &State,
+    heads: &[Option<usize>],
+    heights: &[usize],
+    z: usize,
+    i: usize,
+) -> bool
+    requires whole { length state.now.names ≡ length table.now.nodes }
+    requires bottom { z < length table.now.nodes }
+    requires within { i < length table.now.nodes }
+    ensures { IsTrue result → IsBuilt table.now state.now heads.now heights.now z i }
+{
+    if !are_raised(table, state, heights, i) {
+        return false;
+    }
+    if state.class_of(i) == state.class_of(z) {
+        return is_variable(table, i);
+    }
+    if height_at(state, heights, i) == 0 {
+        return true;
+    }
+    is_noted(table, state, heads, i)
+}
+
+// The same of all nodes.
+fn is_built(
+    table: &Table,
+    state: &State,
+    heads: &[Option<usize>],
+    heights: &[usize],
+    z: usize,
+) -> bool
+    requires whole { length state.now.names ≡ length table.now.nodes }
+    requires bottom { z < length table.now.nodes }
+    ensures { IsTrue result → (i : ℕ) → i < length table.now.nodes
+        → IsBuilt table.now state.now heads.now heights.now z i }
+{
+    for i in 0..table.nodes().len() {
+        if !is_built_at(table, state, heads, heights, z, i) {
+            return false;
+        }
+    }
+    true
+}
+
+// Whether node j is in another class than node i, or a variable, or is known to have the sort.
+fn is_of_sort(
+    sig: &Signature,
+    table: &Table,
+    state: &State,
+    sorts: &[Option<SortId>],
+    i: usize,
+    sort: SortId,
+    j: usize,
+) -> bool
+    requires whole { length state.now.names ≡ length table.now.nodes }
+    requires sorts { HaveSorts sig.now table.now.nodes sorts.now }
+    requires within { i < length table.now.nodes }
+    requires other { j < length table.now.nodes }
+    ensures { IsTrue result → IsOfSort sig.now table.now state.now i sort j }
+{
+    if state.class_of(i) != state.class_of(j) {
+        return true;
+    }
+    if is_variable(table, j) {
+        return true;
+    }
+    has_sort(sig, table, sorts, j, sort)
+}
+
+// Whether all that operators head in the class of node i are known to have the sort.
+fn are_of_sort(
+    sig: &Signature,
+    table: &Table,
+    state: &State,
+    sorts: &[Option<SortId>],
+    i: usize,
+    sort: SortId,
+) -> bool
+    requires whole { length state.now.names ≡ length table.now.nodes }
+    requires sorts { HaveSorts sig.now table.now.nodes sorts.now }
+    requires within { i < length table.now.nodes }
+    ensures { IsTrue result → AreOfSort sig.now table.now state.now i sort }
+{
+    for j in 0..table.nodes().len() {
+        if !is_of_sort(sig, table, state, sorts, i, sort, j) {
+            return false;
+        }
+    }
+    true
+}
+
+// Whether node i is in z's class, or one in which it does not stand, or no variable, or what operators head in its class is
+// known to have its sort.
+fn is_sorted_at(
+    sig: &Signature,
+    table: &Table,
+    state: &State,
+    sorts: &[Option<SortId>],
+    heights: &[usize],
+    z: usize,
+    i: usize,
+) -> bool
+    requires whole { length state.now.names ≡ length table.now.nodes }
+    requires sorts { HaveSorts sig.now table.now.nodes sorts.now }
+    requires bottom { z < length table.now.nodes }
+    requires within { i < length table.now.nodes }
+    ensures { IsTrue result → IsSorted sig.now table.now state.now heights.now z i }
+{
+    if state.class_of(i) == state.class_of(z) {
+        return true;
+    }
+    if height_at(state, heights, i) == 0 {
+        return true;
+    }
+    match table.node(i) {
+        Node::Var(x) => are_of_sort(sig, table, state, sorts, i, x.sort),
+        Node::App(_, _) => true,
+    }
+}
+
+// The same of all nodes.
+fn is_sorted(
+    sig: &Signature,
+    table: &Table,
+    state: &State,
+    sorts: &[Option<SortId>],
+    heights: &[usize],
+    z: usize,
+) -> bool
+    requires whole { length state.now.names ≡ length table.now.nodes }
+    requires sorts { HaveSorts sig.now table.now.nodes sorts.now }
+    requires bottom { z < length table.now.nodes }
+    ensures { IsTrue result → (i : ℕ) → i < length table.now.nodes
+        → IsSorted sig.now table.now state.now heights.now z i }
+{
+    for i in 0..table.nodes().len() {
+        if !is_sorted_at(sig, table, state, sorts, heights, z, i) {
+            return false;
+        }
+    }
+    true
+}
+
+// Whether node z's class is loose, by these heights.
+pub(crate) fn is_loose(
+    sig: &Signature,
+    table: &Table,
+    state: &State,
+    sorts: &[Option<SortId>],
+    heads: &[Option<usize>],
+    heights: &[usize],
+    z: usize,
+) -> bool
+    requires closed { IsClosed sig.now table.now state.now }
+    requires sorts { HaveSorts sig.now table.now.nodes sorts.now }
+    requires bottom { z < length table.now.nodes }
+    ensures { IsTrue result → IsLoose sig.now table.now state.now z heights.now }
+{
+    if height_at(state, heights, z) == 0 {
+        return false;
+    }
+    if !is_built(table, state, heads, heights, z) {
+        return false;
+    }
+    is_sorted(sig, table, state, sorts, heights, z)
+}
