@@ -10,5 +10,5 @@ pub returns-in-Some : goal.returns-in-Some
 returns-in-Some c =
     let k = c.args.task.now in
     let s = c.args.state.now in
-    let h : MayPart k s c.in-Some.i c.in-Some.j × IsOpen s c.in-Some.i c.in-Some.j = subst (λ o. IfSome o (λ p. MayPart k s p.0 p.1 × IsOpen s p.0 p.1)) c.in-Some.is c.in_ok-parted_identity.ensures in
+    let h : MayPart k s c.in-Some.i c.in-Some.j × IsOpen s c.in-Some.i c.in-Some.j = subst (λ o. IfSome o (λ p. MayPart k s p.0 p.1 × IsOpen s p.0 p.1)) c.in-Some.is c.in_ok-i.ensures in
     (h.0.parted.left, h.0.parted.right, h.1, parted_admitted k c.recall.ensures c.loose_classes_part.ensures s c.requires c.in-Some.i c.in-Some.j h.0)
