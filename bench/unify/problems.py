@@ -83,6 +83,19 @@ def known_parts(count):
     return f"{left} =? {right}"
 
 
+def solved_sums(count):
+    """So many pairs beside each other, of a variable and a sum of sums with another identity: each is solved as it stands."""
+    return " /\\ ".join(f"Z{i}:S =? _*_(_&_(V{i}:S, W{i}:S), _*_(_&_(X{i}:S, Y{i}:S), _&_(U{i}:S, b)))" for i in range(1, count + 1))
+
+
+def solved_tower(depth):
+    """Sums by two operators in one another, so deep, against a variable: solved as it stands."""
+    term = "X:S"
+    for i in range(1, depth + 1):
+        term = f"_*_(_&_({term}, V{i}:S), _&_(a, W{i}:S))"
+    return f"{term} =? Z:S"
+
+
 FAMILIES = [
     ("2 against n", "sums", {n: sums(2, n) for n in range(2, 8)}),
     ("3 against n", "sums", {n: sums(3, n) for n in (2, 3)}),
@@ -118,6 +131,8 @@ FAMILIES = [
     ("identities in one another", "identities", {n: identities_in_one_another(n, "_*_(Z:S, b)") for n in (3, 5, 7, 8)}),
     ("identities in one another, two rests", "identities", {n: identities_in_one_another(n, "_*_(Z:S, Y:S)") for n in (3, 5, 6)}),
     ("known parts", "identities", {n: known_parts(n) for n in (1, 2, 3)}),
+    ("solved sums", "identities", {n: solved_sums(n) for n in (1, 2, 3, 4)}),
+    ("solved towers", "identities", {n: solved_tower(n) for n in (2, 4, 6)}),
     ("choices beside each other", "processes", {1: "_|_(_+_(_|_(P:P, Q:P), R:P), P:P) =? _|_(_+_(_|_(Q:P, R:P), P:P), R:P)"}),
     ("bags that are not empty", "fruit", {n: f"{over('_;_', variables('N', 3, 'Ne'))} =? {over('_;_', variables('F', n, 'Fruit'))}" for n in (3, 4, 5)}),
     ("places", "places", {
