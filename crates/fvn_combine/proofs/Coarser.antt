@@ -27,7 +27,7 @@ use Rattle.fvn_combine_systems.specs.Laws.{NodeSystemsAreSumSystems}
 use Rattle.fvn_combine_leaves.specs.Leaves.{IsSolid, MayBeConstant, HaveTwoHeads}
 use Rattle.fvn_combine_choices.proofs.Using.{solution_uses}
 use Rattle.fvn_combine.specs.Tasks.{Combining, IsCombining}
-use Rattle.fvn_combine.specs.Search.{IsEnd, IsRefusedAt, HasNoQuestion, HasNoChoiceAt, AdmitsOrIsParted}
+use Rattle.fvn_combine.specs.Search.{IsEnd, IsRefusedAt, HasNoQuestion, HasNoChoiceAt, AdmitsOrIsParted, IsLeft}
 use Rattle.fvn_combine.specs.Coarser.{Joins, IsAlien, JoinsAliens, JoinsMore, IsEndedAt}
 use Rattle.fvn_combine.specs.Advancing.{IsToCome, IsFinerAt}
 use Rattle.fvn_combine.specs.declared.opened.Leaf.{Leaf}
@@ -183,19 +183,18 @@ module _ (partitions : NodePartitionsArePartitions) (systems : NodeSystemsAreSum
           (joins (term_of p.first) (term_of p.second) (is_node is.well_made is.table_of p.first l) (is_node is.well_made is.table_of p.second m) (own p.first p.first_within ∙ p.together ∙ sym (own p.second p.second_within)))
           )
 
-  -- what is to come where the search ends is finer
+  -- what is to come where the search ends is finer, where all unifiers are asked for
   pub finer_at : (states : List State) → AreClosed k.declarations k.table states → (leaf : Option Leaf) (e : Ended) → IsEnd k e → HasNoQuestion k states e → HasNoChoiceAt k leaf e → IsFinerAt k (IsToCome (search_by k states leaf (Some e))) e
-  finer_at states closed leaf (Basis f system) cause last none = record {
+  finer_at states closed leaf (Basis f system) cause last none = λ all. record {
     at = ended_at last.last own_closed f system last.refused cause.is_system.associative;
     finer = λ u to_come joins more. joins_more last.last own_closed f system last.refused cause.is_system.associative u to_come.0.unifies
-        (
-        elim to_come.1 [
-          | inl a ↦ last.coarser_first u a
-          | inr c ↦ absurd (none u c)
-        ]
-        ) joins more;
+        (subst (λ v. AdmitsOrIsParted last.last (kernel k.declarations v k.table.nodes)) (to_come.1.1.own all) (coarser to_come.1.0 to_come.1.2)) joins more;
   }
     where
+      coarser : (v : Substitution) → IsLeft k states leaf v → AdmitsOrIsParted last.last (kernel k.declarations v k.table.nodes)
+      coarser v (inl a) = last.coarser_first v a
+      coarser v (inr c) = absurd (none v c)
+
       own_closed : IsClosed k.declarations k.table last.last
       own_closed = All-contains (IsClosed k.declarations k.table) (last.below ++ last.last ∷ []) last.last (subst (AreClosed k.declarations k.table) last.is closed) (Contains-push last.below last.last)
   finer_at states closed leaf (Size list) cause last none = tt

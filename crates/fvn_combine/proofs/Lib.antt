@@ -8,6 +8,7 @@ mod Homeless
 mod Listing
 mod Items
 mod Walk
+mod Standing
 mod Trees
 mod Ahead
 mod OneKind

@@ -11,13 +11,15 @@ use Rattle.fvn_combine_nodes.specs.States.{Admits, IsClosed}
 use Rattle.fvn_combine_tree.specs.Trees.{AreClosed, IsAsked, IsTakenOn, weight}
 use Rattle.fvn_combine_nodes.specs.Unifiers.{kernel}
 use Rattle.fvn_combine_nodes.specs.declared.state.State.{State}
-use Rattle.fvn_combine.specs.Tasks.{Combining, IsCombining, IsWanted}
+use Rattle.fvn_combine_loose.specs.Laws.{MoreGeneralIsAPreorder}
+use Rattle.fvn_combine.specs.Tasks.{Combining, IsCombining, IsWanted, HoldsFor}
 use Rattle.fvn_combine.specs.Leaves.{IsOpened, IsCoveredToCome}
-use Rattle.fvn_combine.specs.Search.{IsAdmitted, IsCoveredAt, IsOpenedAt}
+use Rattle.fvn_combine.specs.Search.{IsAdmitted, IsCoveredAt, IsOpenedAt, IsLeft}
 use Rattle.fvn_combine.specs.declared.opened.Opened.{Opened}
 use Rattle.fvn_combine.specs.declared.looking.Looked.{Looked}
 use Rattle.fvn_combine.specs.declared.looking.Looked.TheVariants.{Passed, Leaf}
 use Rattle.fvn_combine.specs.inner.Found.{IsLookedAtLast, IsAdmittedBy}
+use Rattle.fvn_combine.proofs.Standing.{stands_after}
 
 -- lists with a last one are equal in both parts
 pub last_injective : (xs ys : List State) (x y : State) → xs ++ x ∷ [] ≡ ys ++ y ∷ [] → (xs ≡ ys) × (x ≡ y)
@@ -60,7 +62,7 @@ module _ (k : Combining) (u : Substitution) where
   admitted_last below s p = admitted_right below (s ∷ []) (admitted_by (s ∷ []) s (contains_here s []) p)
 
 module _ (k : Combining) (is : IsCombining k) (partitions : UnifiersPartition) where
-  pub after_asking : (before after : List State) → IsAsked k.declarations k.table before after → (u : Substitution) → IsWanted k u → IsAdmitted k before u ↔ (IsAdmitted k after u ⊎ IsCoveredAt k None u)
+  pub after_asking : (before after : List State) → IsAsked k.declarations k.table before after → (u : Substitution) → IsWanted k u → IsAdmitted k before u ↔ IsLeft k after None u
   after_asking before after a u wanted = (
     λ h. inl (subst (λ l. IsAdmitted k l u) (sym a.is) (forth (admitted_cases k u a.below (a.top ∷ []) (subst (λ l. IsAdmitted k l u) a.was h)))),
     λ h. elim h [
@@ -79,32 +81,57 @@ module _ (k : Combining) (is : IsCombining k) (partitions : UnifiersPartition) w
       back (inl b) = admitted_left k u a.below (a.top ∷ []) b
       back (inr w) = admitted_last k u a.below a.top (a.kept (kernel k.declarations u k.table.nodes) w)
 
-  -- what holds of the classes of each unifier is taken on
-  pub after_taking_on : (before after : List State) (Holds : (ℕ → ℕ) → Type 0) → IsTakenOn k.declarations k.table Holds before after → (below : List State) (last : State) → before ≡ below ++ last ∷ []
-      → ((u : Substitution) → IsAdmittedBy k last u → Holds (kernel k.declarations u k.table.nodes))
-      → (u : Substitution) → IsWanted k u → IsAdmitted k before u ↔ (IsAdmitted k after u ⊎ IsCoveredAt k None u)
-  after_taking_on before after Holds m below last is_last holds u wanted = (
-    λ h. inl (subst (λ l. IsAdmitted k l u) (sym m.is) (forth (admitted_cases k u m.below (m.top ∷ []) (subst (λ l. IsAdmitted k l u) m.was h)))),
-    λ h. elim h [
-      | inl n ↦ subst (λ l. IsAdmitted k l u) (sym m.was) (back (admitted_cases k u m.below m.left (subst (λ l. IsAdmitted k l u) m.is n)))
-      | inr n ↦ absurd n
-    ],
-  )
-    where
-      top_is : m.top ≡ last
-      top_is = (last_injective m.below below m.top last (sym m.was ∙ is_last)).1
+  module _ (before after : List State) (Holds : (ℕ → ℕ) → Type 0) (m : IsTakenOn k.declarations k.table Holds before after) (below : List State) (last : State) (is_last : before ≡ below ++ last ∷ []) where
+    top_is : m.top ≡ last
+    top_is = (last_injective m.below below m.top last (sym m.was ∙ is_last)).1
 
-      forth : IsAdmitted k m.below u ⊎ IsAdmitted k (m.top ∷ []) u → IsAdmitted k (m.below ++ m.left) u
-      forth (inl b) = admitted_left k u m.below m.left b
-      forth (inr t) =
-          let p = (partitions k.declarations is.good.fits (problem_of k.given) is.is_given.kinds k.table is.well_made is.table_of u wanted.unifies).partition in
-          let a = admitted_one k u m.top t in
-          let fact = holds u (wanted, subst (λ x. Admits x (kernel k.declarations u k.table.nodes)) top_is a) in
-          admitted_right k u m.below m.left (m.all (kernel k.declarations u k.table.nodes) p a fact)
+    was_admitted : (u : Substitution) → IsAdmitted k before u → IsAdmitted k m.below u ⊎ Admits last (kernel k.declarations u k.table.nodes)
+    was_admitted u h = elim (admitted_cases k u m.below (m.top ∷ []) (subst (λ l. IsAdmitted k l u) m.was h)) [
+      | inl b ↦ inl b
+      | inr t ↦ inr (subst (λ x. Admits x (kernel k.declarations u k.table.nodes)) top_is (admitted_one k u m.top t))
+    ]
 
-      back : IsAdmitted k m.below u ⊎ IsAdmitted k m.left u → IsAdmitted k (m.below ++ m.top ∷ []) u
-      back (inl b) = admitted_left k u m.below (m.top ∷ []) b
-      back (inr w) = admitted_last k u m.below m.top (m.kept (kernel k.declarations u k.table.nodes) w)
+    stays : (u : Substitution) → IsAdmitted k m.below u → IsAdmitted k after u
+    stays u b = subst (λ l. IsAdmitted k l u) (sym m.is) (admitted_left k u m.below m.left b)
+
+    taken_on : (u : Substitution) → IsWanted k u → Admits last (kernel k.declarations u k.table.nodes) → Holds (kernel k.declarations u k.table.nodes) → IsAdmitted k after u
+    taken_on u wanted a fact =
+        let p = (partitions k.declarations is.good.fits (problem_of k.given) is.is_given.kinds k.table is.well_made is.table_of u wanted.unifies).partition in
+        let t = subst (λ x. Admits x (kernel k.declarations u k.table.nodes)) (sym top_is) a in
+        subst (λ l. IsAdmitted k l u) (sym m.is) (admitted_right k u m.below m.left (m.all (kernel k.declarations u k.table.nodes) p t fact))
+
+    -- no more is admitted than before
+    no_more : (u : Substitution) → IsLeft k after None u → IsAdmitted k before u
+    no_more u (inr n) = absurd n
+    no_more u (inl h) = subst (λ l. IsAdmitted k l u) (sym m.was) (elim (admitted_cases k u m.below m.left (subst (λ l. IsAdmitted k l u) m.is h)) [
+      | inl b ↦ admitted_left k u m.below (m.top ∷ []) b
+      | inr w ↦ admitted_last k u m.below m.top (m.kept (kernel k.declarations u k.table.nodes) w)
+    ])
+
+    -- what holds of the classes of each unifier is taken on
+    pub after_taking_on : ((u : Substitution) → IsAdmittedBy k last u → Holds (kernel k.declarations u k.table.nodes)) → (u : Substitution) → IsWanted k u → IsAdmitted k before u ↔ IsLeft k after None u
+    after_taking_on holds u wanted = (
+      λ h. elim (was_admitted u h) [
+        | inl b ↦ inl (stays u b)
+        | inr a ↦ inl (taken_on u wanted a (holds u (wanted, a)))
+      ],
+      no_more u,
+    )
+
+    -- so is what holds of the classes of one that stands for each
+    pub after_parting : MoreGeneralIsAPreorder → ((u : Substitution) → IsAdmittedBy k last u → HoldsFor k (λ v. Admits last (kernel k.declarations v k.table.nodes) × Holds (kernel k.declarations v k.table.nodes)) u)
+        → (u : Substitution) → IsWanted k u → HoldsFor k (IsAdmitted k before) u ↔ HoldsFor k (IsLeft k after None) u
+    after_parting preorder holds u wanted = (
+      λ h. let v = h.0 in
+          let stands = h.1 in
+          elim (was_admitted v h.2) [
+            | inl b ↦ (v, stands, inl (stays v b))
+            | inr a ↦ let other = holds v (stands.wanted, a) in
+                let w = other.0 in
+                (w, stands_after k is preorder u v w stands other.1, inl (taken_on w other.1.wanted other.2.0 other.2.1))
+          ],
+      λ h. (h.0, h.1, no_more h.0 h.2),
+    )
 
 -- states before the last are closed
 pub closed_before : (k : Combining) (before after : List State) (s : State) → before ≡ after ++ s ∷ [] → AreClosed k.declarations k.table before → AreClosed k.declarations k.table after
@@ -131,7 +158,7 @@ module _ (k : Combining) (before after : List State) (looked : Looked) (l : IsLo
   taken_falls (Some s) h f = f
 
 -- the last state admits no unifier, and is passed over
-pub after_passing : (k : Combining) (before after : List State) (l : IsLookedAtLast k before Passed) → before ≡ after ++ l.last ∷ [] → (u : Substitution) → IsWanted k u → IsAdmitted k before u ↔ (IsAdmitted k after u ⊎ IsCoveredAt k None u)
+pub after_passing : (k : Combining) (before after : List State) (l : IsLookedAtLast k before Passed) → before ≡ after ++ l.last ∷ [] → (u : Substitution) → IsWanted k u → IsAdmitted k before u ↔ IsLeft k after None u
 after_passing k before after l e u wanted = (
   λ h. elim (admitted_cases k u after (l.last ∷ []) (subst (λ x. IsAdmitted k x u) e h)) [
     | inl b ↦ inl b
@@ -151,7 +178,7 @@ module _ (k : Combining) (before after : List State) (o : Opened) (l : IsLookedA
   leaf_opened = subst (λ x. IsOpened k x o) same l.looked.0
 
   -- the last state is a leaf, which is opened
-  pub after_opening : (u : Substitution) → IsWanted k u → IsAdmitted k before u ↔ (IsAdmitted k after u ⊎ IsCoveredAt k (Some (record { state = s; opened = o })) u)
+  pub after_opening : (u : Substitution) → IsWanted k u → IsAdmitted k before u ↔ IsLeft k after (Some (record { state = s; opened = o })) u
   after_opening u wanted = (
     λ h. elim (admitted_cases k u after (s ∷ []) (subst (λ x. IsAdmitted k x u) e h)) [
       | inl b ↦ inl b

@@ -92,14 +92,29 @@ fn may_part(task: &Task, state: &State, i: usize, j: usize) -> Result<bool, NoMe
     Ok(are_parted(task.sig, &task.table, state, loose.as_slice(), i, j))
 }
 
+// An open question, or that all unifiers say no to it. Nothing is parted here: where a system is refused, a state that
+// keeps all pairs apart is refused too, and each step solves it once more.
+fn asked_at_refusal(task: &Task, state: &State, known: &Known, i: usize, j: usize) -> Looked
+    requires closed { IsClosed task.now.declarations task.now.table state.now }
+    requires heads { TellHeads task.now.declarations task.now.table state.now known.now.sorted
+        known.now.heads.items }
+    requires sorted { known.now.sorted ≡ task.now.sorted }
+    requires left { i < length task.now.table.nodes }
+    requires right { j < length task.now.table.nodes }
+    requires open { IsOpen state.now i j }
+    ensures { IsLookedAt task.now state.now result }
+{
+    task.recall();
+    tables_have_sums();
+    sorted_unifiers_go_with();
+    if differ(task.sig, &task.table, state, known, i, j) {
+        return Looked::Apart(i, j);
+    }
+    Looked::Open(i, j)
+}
+
 // An open question, or that unifiers say no to it: all, or those that are enough.
-fn asked(
-    task: &Task,
-    state: &State,
-    known: &Known,
-    i: usize,
-    j: usize,
-) -> Result<Looked, NoMemory>
+fn asked(task: &Task, state: &State, known: &Known, i: usize, j: usize) -> Result<Looked, NoMemory>
     requires closed { IsClosed task.now.declarations task.now.table state.now }
     requires heads { TellHeads task.now.declarations task.now.table state.now known.now.sorted
         known.now.heads.items }
@@ -186,10 +201,7 @@ fn look_at_refused(
             Ok(looked)
         }
         None => match question_on_all(task.sig, &task.table, state, &reading) {
-            Some(pair) => {
-            let looked = asked(task, state, &known, pair.0, pair.1)?;
-            Ok(looked)
-        }
+            Some(pair) => Ok(asked_at_refusal(task, state, &known, pair.0, pair.1)),
             None => Ok(Looked::Refused(f, system)),
         },
     }
@@ -320,6 +332,22 @@ fn look_further(
     }
 }
 
+// A question that is worth asking, or that the unifiers that are enough say no to it.
+fn worth_asking(task: &Task, state: &State, i: usize, j: usize) -> Result<Looked, NoMemory>
+    requires closed { IsClosed task.now.declarations task.now.table state.now }
+    requires left { i < length task.now.table.nodes }
+    requires right { j < length task.now.table.nodes }
+    requires open { IsOpen state.now i j }
+    ensures { IfOk result (IsLookedAt task.now state.now) }
+{
+    task.recall();
+    loose_classes_part();
+    if may_part(task, state, i, j)? {
+        return Ok(Looked::Parted(i, j));
+    }
+    Ok(Looked::Open(i, j))
+}
+
 // What is asked for by a state: first what all unifiers say of it.
 fn look_within(task: &Task, state: &State, effort: &mut Effort) -> Result<Looked, NoMemory>
     requires { IsClosed task.now.declarations task.now.table state.now }
@@ -353,22 +381,6 @@ fn look_within(task: &Task, state: &State, effort: &mut Effort) -> Result<Looked
     }
 }
 
-// A question that is worth asking, or that the unifiers that are enough say no to it.
-fn worth_asking(task: &Task, state: &State, i: usize, j: usize) -> Result<Looked, NoMemory>
-    requires closed { IsClosed task.now.declarations task.now.table state.now }
-    requires left { i < length task.now.table.nodes }
-    requires right { j < length task.now.table.nodes }
-    requires open { IsOpen state.now i j }
-    ensures { IfOk result (IsLookedAt task.now state.now) }
-{
-    task.recall();
-    loose_classes_part();
-    if may_part(task, state, i, j)? {
-        return Ok(Looked::Parted(i, j));
-    }
-    Ok(Looked::Open(i, j))
-}
-
 // A class and an identity that the more general unifiers of a state have apart, where these are enough.
 fn parted_identity(task: &Task, state: &State) -> Result<Option<(usize, usize)>, NoMemory>
     requires closed { IsClosed task.now.declarations task.now.table state.now }
@@ -376,6 +388,9 @@ fn parted_identity(task: &Task, state: &State) -> Result<Option<(usize, usize)>,
         × IsOpen state.now p.0 p.1)) }
 {
     if !task.general {
+        return Ok(None);
+    }
+    if task.table.units().is_empty() {
         return Ok(None);
     }
     let loose = loose_heights(task.alloc, task.sig, &task.table, state)?;

@@ -93,7 +93,7 @@ module _ (k : Combining) where
   IsLookedAt s (Parted i j) =
       (i < length k.table.nodes) × (j < length k.table.nodes) × IsOpen s i j
       × ((u : Substitution) → IsAdmittedBy s u
-          → HoldsFor k (λ v. Admits s (kernel k.declarations v k.table.nodes) × (kernel k.declarations v k.table.nodes i ≢ kernel k.declarations v k.table.nodes j)) u)
+      → HoldsFor k (λ v. Admits s (kernel k.declarations v k.table.nodes) × (kernel k.declarations v k.table.nodes i ≢ kernel k.declarations v k.table.nodes j)) u)
   IsLookedAt s Passed = (u : Substitution) → IsAdmittedBy s u → ⊥
   IsLookedAt s (Refused f system) = IsBasisCause k.declarations k.given f system × IsRefusedAt k s f system
   IsLookedAt s (OnLeaf o) =

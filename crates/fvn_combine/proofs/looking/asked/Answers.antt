@@ -1,10 +1,11 @@
--- What differs under all values is in two classes under each unifier.
+-- What differs under all values is in two classes under each unifier, and what may be parted under one that stands for each.
 use Rattle.std.proofs.Common.{◌<◌, length, sym, subst}
 use Rattle.fvn_flat.specs.Solving.{problem_of}
 use Rattle.fvn_combine_nodes.specs.States.{IsClosed}
 use Rattle.fvn_combine_inferring.specs.Inferred.{TellHeads, HaveTwoValues}
 use Rattle.fvn_combine.specs.Tasks.{Combining}
 use Rattle.fvn_combine.proofs.Inferring.{apart_admitted}
+use Rattle.fvn_combine.proofs.Standing.{parted_admitted}
 use Rattle.fvn_combine.proofs.looking.asked.Goals as goal
 
 pub differ-requires : goal.differ-requires
@@ -25,3 +26,8 @@ returns-then-differ c = (
       (subst (λ b. HaveTwoValues c.args.task.now.declarations c.args.task.now.table c.args.state.now b c.args.i c.args.j) c.requires.sorted
       (subst (λ (k : Combining). HaveTwoValues k.declarations k.table c.args.state.now c.args.known.now.sorted c.args.i c.args.j) c.task.view_is (c.differ.ensures c.if-differ.true))),
 )
+
+pub returns-then-branch : goal.returns-then-branch
+returns-then-branch c =
+    let may = c.in_ok-may_part.ensures c.if-branch.true in
+    (c.requires.left, c.requires.right, c.requires.open, parted_admitted c.args.task.now c.recall.ensures c.loose_classes_part.ensures c.args.state.now c.requires.closed c.args.i c.args.j may)

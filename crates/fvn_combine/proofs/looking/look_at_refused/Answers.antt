@@ -16,7 +16,7 @@ returns c =
       refused_at k s leaf c.args.reading c.requires.reading c.args.f c.args.system c.requires.refused,
     )
 
-pub asked-requires : goal.asked-requires
-asked-requires c =
+pub asked_at_refusal-requires : goal.asked_at_refusal-requires
+asked_at_refusal-requires c =
     let q = subst (λ (k : Combining). IsFullQuestion k.declarations k.table c.args.state.now (Some c.in-Some-question_on_all.pair)) c.task.view_is c.in-Some-question_on_all.ensures in
     record { closed = c.requires.near.closed; heads = c.requires.heads; sorted = c.requires.sorted; left = q.0; right = q.1; «open» = q.2 }

@@ -10,6 +10,7 @@ use Rattle.fvn_combine_tree.specs.Trees.{IsToCome}
 use Rattle.fvn_combine_nodes.specs.Unifiers.{kernel}
 use Rattle.fvn_combine_drawing.specs.CombineBoundsNarrow.{KeepsSorts}
 use Rattle.fvn_combine.specs.Tasks.{Combining, IsWanted}
+use Rattle.fvn_combine.proofs.Standing.{stands_for_itself}
 use Rattle.fvn_combine.proofs.combiner.Combiner.begun.Goals as goal
 
 pub returns-clause-all : goal.returns-clause-all
@@ -25,4 +26,5 @@ returns-clause-all c = λ u unifies keeps.
     let is = c.recall.ensures in
     let partition = (c.unifiers_partition.ensures k.declarations is.good.fits (problem_of k.given) is.is_given.kinds k.table is.well_made is.table_of u kept).partition in
     let class = kernel k.declarations u k.table.nodes in
-    (wanted, inl (subst (λ (k : Combining). IsNodePartition k.declarations k.table class → IsToCome c.in_ok-tree.tree class) c.task.view_is (c.in_ok-tree.ensures.all class) partition))
+    let admitted = subst (λ (k : Combining). IsNodePartition k.declarations k.table class → IsToCome c.in_ok-tree.tree class) c.task.view_is (c.in_ok-tree.ensures.all class) partition in
+    (wanted, (u, stands_for_itself k is c.more_general_is_a_preorder.ensures u wanted, inl admitted))

@@ -1,0 +1,54 @@
+-- Which unifiers stand for others: each for itself, and what stands for one of them.
+use Rattle.std.proofs.Common.{◌≡◌, ◌≢◌, ℕ, refl, sym, ◌∙◌, true, Option, Some, None}
+use Rattle.std.specs.Prelude.{◌↔◌, IfSome}
+use Rattle.std.proofs.lemmas.Bool.{false≢true}
+use Rattle.fvn_terms.specs.Substitution.{Substitution}
+use Rattle.fvn_flat.specs.Solving.{problem_of}
+use Rattle.fvn_combine_nodes.specs.States.{Admits, IsClosed, IsOpen}
+use Rattle.fvn_combine_nodes.specs.Unifiers.{kernel}
+use Rattle.fvn_combine_nodes.specs.declared.state.State.{State}
+use Rattle.fvn_combine_loose.specs.Loose.{ArePartedOpen}
+use Rattle.fvn_combine_loose.specs.Laws.{LooseClassesPart, MoreGeneralIsAPreorder}
+use Rattle.fvn_combine.specs.Tasks.{Combining, IsCombining, IsWanted, StandsFor, HoldsFor}
+use Rattle.fvn_combine.specs.inner.Found.{IsAdmittedBy, MayPart}
+
+module _ (k : Combining) (is : IsCombining k) where
+  module _ (preorder : MoreGeneralIsAPreorder) where
+    pub stands_for_itself : (u : Substitution) → IsWanted k u → StandsFor k u u
+    stands_for_itself u wanted = record {
+      wanted = wanted;
+      more_general = preorder.itself k.declarations is.good (problem_of k.given) is.is_given.kinds u;
+      own = λ _. refl;
+    }
+
+    pub stands_after : (u v w : Substitution) → StandsFor k u v → StandsFor k v w → StandsFor k u w
+    stands_after u v w a b = record {
+      wanted = b.wanted;
+      more_general = preorder.after k.declarations is.good (problem_of k.given) is.is_given.kinds u v w a.more_general b.more_general;
+      own = λ e. b.own e ∙ a.own e;
+    }
+
+  -- nodes that a loose class parts are in two classes under a unifier that stands for the other
+  pub parted_admitted : LooseClassesPart → (s : State) → IsClosed k.declarations k.table s → (i j : ℕ) → MayPart k s i j → (u : Substitution) → IsAdmittedBy k s u
+      → HoldsFor k (λ v. Admits s (kernel k.declarations v k.table.nodes) × (kernel k.declarations v k.table.nodes i ≢ kernel k.declarations v k.table.nodes j)) u
+  parted_admitted law s closed i j may u h =
+      let p = law k.declarations is.good (problem_of k.given) is.is_given.kinds k.table is.well_made is.table_of s closed i j may.parted u h.0.unifies h.1 in
+      let v = p.0 in
+      let loosened = p.1 in (
+        v,
+        record {
+          wanted = record { unifies = loosened.unifies; keeps_sorts = λ e. loosened.more_general.sorts (h.0.keeps_sorts e) };
+          more_general = loosened.more_general;
+          own = λ e. absurd (false≢true (sym e ∙ may.enough));
+        },
+        (loosened.admits, p.2),
+      )
+
+-- what a loose class parts may be parted where more general unifiers are enough
+pub may_part_open : (k : Combining) → k.general ≡ true → (s : State) (o : Option (ℕ × ℕ)) → IfSome o (ArePartedOpen k.declarations k.table s) → IfSome o (λ p. MayPart k s p.0 p.1 × IsOpen s p.0 p.1)
+may_part_open k enough s None h = tt
+may_part_open k enough s (Some p) h = (record { enough = enough; parted = h.parted }, h.open_pair)
+
+-- what is so of each unifier that is asked for is so of one that stands for it
+pub holds_both : (k : Combining) (P Q : Substitution → Type 0) → ((v : Substitution) → IsWanted k v → P v ↔ Q v) → (u : Substitution) → IsWanted k u → HoldsFor k P u ↔ HoldsFor k Q u
+holds_both k P Q same u wanted = (λ h. (h.0, h.1, (same h.0 h.1.wanted).0 h.2), λ h. (h.0, h.1, (same h.0 h.1.wanted).1 h.2))
