@@ -14,7 +14,7 @@ use Rattle.fvn_combine_nodes.specs.declared.state.State.{State}
 use Rattle.fvn_combine_loose.specs.Laws.{MoreGeneralIsAPreorder}
 use Rattle.fvn_combine.specs.Tasks.{Combining, IsCombining, IsWanted, HoldsFor}
 use Rattle.fvn_combine.specs.Leaves.{IsOpened, IsCoveredToCome}
-use Rattle.fvn_combine.specs.Search.{IsAdmitted, IsCoveredAt, IsOpenedAt, IsLeft}
+use Rattle.fvn_combine.specs.Search.{IsAdmitted, IsOpenedAt, IsLeft}
 use Rattle.fvn_combine.specs.declared.opened.Opened.{Opened}
 use Rattle.fvn_combine.specs.declared.looking.Looked.{Looked}
 use Rattle.fvn_combine.specs.declared.looking.Looked.TheVariants.{Passed, Leaf}

@@ -15,7 +15,7 @@ use Rattle.fvn_combine_drawing.specs.declared.drawing.Drawn.TheVariants.{Nothing
 use Rattle.fvn_combine.specs.Tasks.{Combining, IsWanted, HoldsFor}
 use Rattle.fvn_combine.specs.Advancing.{IsCovered}
 use Rattle.fvn_combine.specs.Leaves.{IsOpened, IsCoveredLater, IsCoveredToCome}
-use Rattle.fvn_combine.specs.Search.{IsEnd, IsRefusedAt, HasNoQuestion, HasNoChoiceAt, IsAdmitted, IsOpenedAt, IsCoveredAt, IsLeft}
+use Rattle.fvn_combine.specs.Search.{IsEnd, IsRefusedAt, HasNoQuestion, HasNoChoiceAt, IsAdmitted, IsOpenedAt, IsLeft}
 use Rattle.fvn_combine.specs.Work.{most_tags, most_numbers, leaf_left, left_by}
 use Rattle.fvn_combine.specs.declared.opened.Opened.{Opened}
 use Rattle.fvn_combine.specs.declared.opened.Leaf.{Leaf}
