@@ -1,5 +1,5 @@
 -- The question is open; where none is, the refused system is that of a leaf.
-use Rattle.std.proofs.Common.{sym, subst, Some}
+use Rattle.std.proofs.Common.{subst, Some}
 use Rattle.fvn_combine_nodes.specs.States.{class_of}
 use Rattle.fvn_combine_leaves.specs.Leaves.{IsFullLeaf, IsFullQuestion}
 use Rattle.fvn_combine.specs.Tasks.{Combining}
