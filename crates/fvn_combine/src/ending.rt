@@ -10,12 +10,20 @@ use fvn_terms::{NoMemory, OpId, Var};
 use std::alloc::Global;
 
 /// Why a search has ended.
-#[derive(Drop)]
 pub(crate) enum Ended {
     /// The sum system of an operator is refused.
     Basis(OpId, System),
     /// A solved list unfolds to a term with too many symbols.
     Size(SolvedList),
+}
+
+impl Drop for Ended {
+    fn drop(self) {
+        match self {
+            Ended::Basis(_, _) => {}
+            Ended::Size(_) => {}
+        }
+    }
 }
 
 /// Why a combiner gives no more unifiers.

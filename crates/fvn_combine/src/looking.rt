@@ -156,19 +156,38 @@ fn look_at_bases(
 {
     task.recall();
     match question_on_touched(task.sig, &task.table, state, &reading, bases.as_slice()) {
-        Some(pair) => {
-            let looked = asked(task, state, &known, pair.0, pair.1)?;
-            Ok(looked)
-        }
-        None => {
-            let looked = look_at_leaf(task, state, reading, known, bases)?;
-            Ok(looked)
-        }
+        Some(pair) => asked(task, state, &known, pair.0, pair.1),
+        None => look_at_leaf(task, state, reading, known, bases),
     }
 }
 
-// What is asked for by a state that is nearly a leaf, where f's system is refused: its minimal solutions may still be
-// known.
+// What is asked for by a state that is nearly a leaf, where f's system is refused: an open question, or an end.
+fn asked_or_refused(
+    task: &Task,
+    state: &State,
+    reading: &Reading,
+    known: &Known,
+    f: OpId,
+    system: System,
+) -> Looked
+    requires near { IsNearLeaf task.now.declarations task.now.table state.now }
+    requires reading { IsReading task.now.declarations task.now.table (class_of state.now)
+        reading.now }
+    requires heads { TellHeads task.now.declarations task.now.table state.now known.now.sorted
+        known.now.heads.items }
+    requires sorted { known.now.sorted ≡ task.now.sorted }
+    requires refused { IsFirstRefused reading.now.sums f system }
+    ensures { IsLookedAt task.now state.now result }
+{
+    task.recall();
+    refusals_are_causes();
+    match question_on_all(task.sig, &task.table, state, reading) {
+        Some(pair) => asked_at_refusal(task, state, known, pair.0, pair.1),
+        None => Looked::Refused(f, system),
+    }
+}
+
+// The same, where its minimal solutions may still be known.
 fn look_at_refused(
     task: &Task,
     state: &State,
@@ -187,7 +206,6 @@ fn look_at_refused(
     ensures { IfOk result (IsLookedAt task.now state.now) }
 {
     task.recall();
-    refusals_are_causes();
     match bases_from_last(
         task.alloc,
         task.sig,
@@ -196,14 +214,8 @@ fn look_at_refused(
         &reading,
         task.sorted,
     )? {
-        Some(bases) => {
-            let looked = look_at_bases(task, state, reading, known, bases)?;
-            Ok(looked)
-        }
-        None => match question_on_all(task.sig, &task.table, state, &reading) {
-            Some(pair) => Ok(asked_at_refusal(task, state, &known, pair.0, pair.1)),
-            None => Ok(Looked::Refused(f, system)),
-        },
+        Some(bases) => look_at_bases(task, state, reading, known, bases),
+        None => Ok(asked_or_refused(task, state, &reading, &known, f, system)),
     }
 }
 
@@ -235,13 +247,9 @@ fn look_at_systems(
         Err(OpenFault::NoMemory) => Err(NoMemory),
         Err(OpenFault::Basis(f, system)) => {
             effort.refused = true;
-            let looked = look_at_refused(task, state, reading, known, f, system)?;
-            Ok(looked)
+            look_at_refused(task, state, reading, known, f, system)
         }
-        Ok(bases) => {
-            let looked = look_at_bases(task, state, reading, known, bases)?;
-            Ok(looked)
-        }
+        Ok(bases) => look_at_bases(task, state, reading, known, bases),
     }
 }
 
@@ -294,14 +302,8 @@ fn look_at_near_leaf(
         return Ok(Looked::Passed);
     }
     match turned_bases(task, state, &reading, effort)? {
-        Some(bases) => {
-            let looked = look_at_bases(task, state, reading, known, bases)?;
-            Ok(looked)
-        }
-        None => {
-            let looked = look_at_systems(task, state, reading, known, effort)?;
-            Ok(looked)
-        }
+        Some(bases) => look_at_bases(task, state, reading, known, bases),
+        None => look_at_systems(task, state, reading, known, effort),
     }
 }
 
@@ -321,14 +323,8 @@ fn look_further(
     ensures { IfOk result (IsLookedAt task.now state.now) }
 {
     match first_question(task.sig, &task.table, state, &reading, effort.is_long()) {
-        Some((i, j)) => {
-            let looked = asked(task, state, &known, i, j)?;
-            Ok(looked)
-        }
-        None => {
-            let looked = look_at_near_leaf(task, state, reading, known, effort)?;
-            Ok(looked)
-        }
+        Some((i, j)) => asked(task, state, &known, i, j),
+        None => look_at_near_leaf(task, state, reading, known, effort),
     }
 }
 
@@ -348,16 +344,43 @@ fn worth_asking(task: &Task, state: &State, i: usize, j: usize) -> Result<Looked
     Ok(Looked::Open(i, j))
 }
 
+// What is inferred of a state, if anything is.
+fn look_inferred(
+    task: &Task,
+    state: &State,
+    reading: &Reading,
+    known: &Known,
+) -> Result<Option<Looked>, NoMemory>
+    requires closed { IsClosed task.now.declarations task.now.table state.now }
+    requires reading { IsReading task.now.declarations task.now.table (class_of state.now)
+        reading.now }
+    requires heads { TellHeads task.now.declarations task.now.table state.now known.now.sorted
+        known.now.heads.items }
+    requires sorted { known.now.sorted ≡ task.now.sorted }
+    ensures { IfOk result (λ o. IfSome o (IsLookedAt task.now state.now)) }
+{
+    task.recall();
+    tables_have_sums();
+    sorted_unifiers_go_with();
+    match infer(task.alloc, task.sig, &task.table, state, reading, known)? {
+        Inferred::Impossible => Ok(Some(Looked::Passed)),
+        Inferred::Together(i, j) => Ok(Some(Looked::Together(i, j))),
+        Inferred::Question(i, j) => {
+            let looked = worth_asking(task, state, i, j)?;
+            Ok(Some(looked))
+        }
+        Inferred::Nothing => Ok(None),
+    }
+}
+
 // What is asked for by a state: first what all unifiers say of it.
 fn look_within(task: &Task, state: &State, effort: &mut Effort) -> Result<Looked, NoMemory>
     requires { IsClosed task.now.declarations task.now.table state.now }
     ensures { IfOk result (IsLookedAt task.now state.now) }
 {
-    task.recall();
     tables_hold_arguments();
     tables_are_small();
     tables_have_sums();
-    sorted_unifiers_go_with();
     let reading = read(task.alloc, task.sig, &task.table, state)?;
     let known = known_of(
         task.alloc,
@@ -367,17 +390,9 @@ fn look_within(task: &Task, state: &State, effort: &mut Effort) -> Result<Looked
         &reading,
         task.sorted,
     )?;
-    match infer(task.alloc, task.sig, &task.table, state, &reading, &known)? {
-        Inferred::Impossible => Ok(Looked::Passed),
-        Inferred::Together(i, j) => Ok(Looked::Together(i, j)),
-        Inferred::Question(i, j) => {
-            let looked = worth_asking(task, state, i, j)?;
-            Ok(looked)
-        }
-        Inferred::Nothing => {
-            let looked = look_further(task, state, reading, known, effort)?;
-            Ok(looked)
-        }
+    match look_inferred(task, state, &reading, &known)? {
+        Some(looked) => Ok(looked),
+        None => look_further(task, state, reading, known, effort),
     }
 }
 
@@ -406,10 +421,7 @@ fn look_at(task: &Task, state: &State, effort: &mut Effort) -> Result<Looked, No
     loose_classes_part();
     match parted_identity(task, state)? {
         Some((i, j)) => Ok(Looked::Parted(i, j)),
-        None => {
-            let looked = look_within(task, state, effort)?;
-            Ok(looked)
-        }
+        None => look_within(task, state, effort),
     }
 }
 

@@ -25,14 +25,18 @@ use fvn_lindio::Solution;
 use fvn_terms::{NoMemory, OpId};
 
 /// Tags that are current, and the lists of numbers under them that are still to come.
-#[derive(Drop)]
 pub(crate) struct Turning {
     pub(crate) tags: Seq<Option<OpId>>,
     pub(crate) wheels: Wheels,
 }
 
+impl Drop for Turning {
+    fn drop(self) {
+        let Turning { tags: _, wheels: _ } = self;
+    }
+}
+
 /// What is read of a leaf, and its choices that are still to come.
-#[derive(Drop)]
 pub(crate) struct Opened {
     pub(crate) reading: Reading,
     pub(crate) known: Known,
@@ -42,11 +46,32 @@ pub(crate) struct Opened {
     pub(crate) turning: Option<Turning>,
 }
 
+impl Drop for Opened {
+    fn drop(self) {
+        let Opened {
+            reading: _,
+            known: _,
+            bases: _,
+            shared: _,
+            tags: _,
+            turning: _,
+        } = self;
+    }
+}
+
 /// A state that is a leaf, with what is read of it.
-#[derive(Drop)]
 pub(crate) struct Leaf {
     pub(crate) state: State,
     pub(crate) opened: Opened,
+}
+
+impl Drop for Leaf {
+    fn drop(self) {
+        let Leaf {
+            state: _,
+            opened: _,
+        } = self;
+    }
 }
 
 // Opens a leaf, all of whose choices are to come.

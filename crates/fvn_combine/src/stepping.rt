@@ -1,19 +1,20 @@
 //! One step of the search after another.
-ghost use Rattle.std.specs.Prelude.{◌≡◌, IfOk, OnErr};
+ghost use Rattle.std.specs.Prelude.{◌≡◌, Some, None, IfOk, OnErr};
 ghost use Rattle.fvn_combine_tree.specs.Trees.{AreClosed, AreInOrder};
 ghost use Rattle.fvn_combine.specs.Search.{IsOpenedAt};
-ghost use Rattle.fvn_combine.specs.inner.Found.{IsStep, AreFound, IsLessLeft};
+ghost use Rattle.fvn_combine.specs.inner.Found.{IsStep, IsLookedAtLast, AreFound, IsLessLeft};
+ghost use Rattle.fvn_combine.specs.declared.looking.Looked.TheVariants.{Open, Together, Apart, Parted, Passed, Leaf as OnLeaf};
 ghost use Rattle.fvn_combine.specs.Work.{left_by};
 
 use crate::effort::Effort;
 use crate::ending::Ended;
 use crate::looking::{Looked, look};
-use crate::opened::Leaf;
+use crate::opened::{Leaf, Opened};
 use crate::task::Task;
 use crate::walking::next_in;
 use fvn_combine_drawing::Drawn;
 use fvn_combine_loose::more_general_is_a_preorder;
-use fvn_combine_nodes::unifiers_partition;
+use fvn_combine_nodes::{State, unifiers_partition};
 use fvn_combine_tree::Tree;
 use fvn_flat::Subst;
 use fvn_terms::NoMemory;
@@ -40,6 +41,147 @@ pub(crate) enum Found {
     Given(Subst),
 }
 
+// No leaf is open any more.
+fn close_leaf(leaf: &mut Option<Leaf>)
+    ensures { leaf.new ≡ None }
+{
+    *leaf = None;
+}
+
+// The leaf is open.
+fn open_leaf(leaf: &mut Option<Leaf>, state: State, opened: Opened)
+    ensures { leaf.new ≡ Some (record { state = state; opened = opened }) }
+{
+    *leaf = Some(Leaf { state, opened });
+}
+
+// Asks the question that is open in the last state.
+fn ask_last(
+    task: &Task,
+    tree: &mut Tree,
+    leaf: &mut Option<Leaf>,
+    i: usize,
+    j: usize,
+) -> Result<Step, NoMemory>
+    requires closed { AreClosed task.now.declarations task.now.table tree.old }
+    requires ordered { AreInOrder tree.old }
+    requires looked { IsLookedAtLast task.now tree.old (Open i j) }
+    ensures closed { AreClosed task.now.declarations task.now.table tree.new }
+    ensures ordered { AreInOrder tree.new }
+    ensures stepped { IfOk result (IsStep task.now tree.old leaf.old tree.new leaf.new) }
+    ensures no_memory { OnErr result ((tree.new ≡ tree.old) × (leaf.new ≡ leaf.old)) }
+{
+    task.recall();
+    unifiers_partition();
+    tree.ask(task.alloc, task.sig, &task.table, i, j)?;
+    close_leaf(leaf);
+    Ok(Step::More)
+}
+
+// Takes on that two nodes are in one class.
+fn meet_last(
+    task: &Task,
+    tree: &mut Tree,
+    leaf: &mut Option<Leaf>,
+    i: usize,
+    j: usize,
+) -> Result<Step, NoMemory>
+    requires closed { AreClosed task.now.declarations task.now.table tree.old }
+    requires ordered { AreInOrder tree.old }
+    requires looked { IsLookedAtLast task.now tree.old (Together i j) }
+    ensures closed { AreClosed task.now.declarations task.now.table tree.new }
+    ensures ordered { AreInOrder tree.new }
+    ensures stepped { IfOk result (IsStep task.now tree.old leaf.old tree.new leaf.new) }
+    ensures no_memory { OnErr result ((tree.new ≡ tree.old) × (leaf.new ≡ leaf.old)) }
+{
+    task.recall();
+    unifiers_partition();
+    tree.meet(task.alloc, task.sig, &task.table, i, j)?;
+    close_leaf(leaf);
+    Ok(Step::More)
+}
+
+// Takes on that two nodes are in different classes.
+fn part_last(
+    task: &Task,
+    tree: &mut Tree,
+    leaf: &mut Option<Leaf>,
+    i: usize,
+    j: usize,
+) -> Result<Step, NoMemory>
+    requires closed { AreClosed task.now.declarations task.now.table tree.old }
+    requires ordered { AreInOrder tree.old }
+    requires looked { IsLookedAtLast task.now tree.old (Apart i j) }
+    ensures closed { AreClosed task.now.declarations task.now.table tree.new }
+    ensures ordered { AreInOrder tree.new }
+    ensures stepped { IfOk result (IsStep task.now tree.old leaf.old tree.new leaf.new) }
+    ensures no_memory { OnErr result ((tree.new ≡ tree.old) × (leaf.new ≡ leaf.old)) }
+{
+    task.recall();
+    unifiers_partition();
+    tree.part(task.alloc, task.sig, &task.table, i, j)?;
+    close_leaf(leaf);
+    Ok(Step::More)
+}
+
+// Takes on the same, where more general unifiers have them so.
+fn part_last_general(
+    task: &Task,
+    tree: &mut Tree,
+    leaf: &mut Option<Leaf>,
+    i: usize,
+    j: usize,
+) -> Result<Step, NoMemory>
+    requires closed { AreClosed task.now.declarations task.now.table tree.old }
+    requires ordered { AreInOrder tree.old }
+    requires looked { IsLookedAtLast task.now tree.old (Parted i j) }
+    ensures closed { AreClosed task.now.declarations task.now.table tree.new }
+    ensures ordered { AreInOrder tree.new }
+    ensures stepped { IfOk result (IsStep task.now tree.old leaf.old tree.new leaf.new) }
+    ensures no_memory { OnErr result ((tree.new ≡ tree.old) × (leaf.new ≡ leaf.old)) }
+{
+    task.recall();
+    unifiers_partition();
+    more_general_is_a_preorder();
+    tree.part(task.alloc, task.sig, &task.table, i, j)?;
+    close_leaf(leaf);
+    Ok(Step::More)
+}
+
+// Passes over the last state.
+fn pass_last(task: &Task, tree: &mut Tree, leaf: &mut Option<Leaf>) -> Step
+    requires closed { AreClosed task.now.declarations task.now.table tree.old }
+    requires ordered { AreInOrder tree.old }
+    requires looked { IsLookedAtLast task.now tree.old Passed }
+    ensures closed { AreClosed task.now.declarations task.now.table tree.new }
+    ensures ordered { AreInOrder tree.new }
+    ensures stepped { IsStep task.now tree.old leaf.old tree.new leaf.new result }
+{
+    let _task = task;
+    let _last = tree.take_top();
+    close_leaf(leaf);
+    Step::More
+}
+
+// Opens the last state, which is a leaf.
+fn open_last(task: &Task, tree: &mut Tree, leaf: &mut Option<Leaf>, opened: Opened) -> Step
+    requires closed { AreClosed task.now.declarations task.now.table tree.old }
+    requires ordered { AreInOrder tree.old }
+    requires looked { IsLookedAtLast task.now tree.old (OnLeaf opened) }
+    ensures closed { AreClosed task.now.declarations task.now.table tree.new }
+    ensures ordered { AreInOrder tree.new }
+    ensures stepped { IsStep task.now tree.old leaf.old tree.new leaf.new result }
+{
+    let _task = task;
+    match tree.take_top() {
+        None => Step::Over,
+        Some(state) => {
+            open_leaf(leaf, state, opened);
+            Step::More
+        }
+    }
+}
+
 // Looks at the last state: asks its question, takes on a fact, passes it over, opens it, or says why the search ends.
 fn take_step(
     task: &Task,
@@ -54,44 +196,15 @@ fn take_step(
     ensures stepped { IfOk result (IsStep task.now tree.old leaf.old tree.new leaf.new) }
     ensures no_memory { OnErr result ((tree.new ≡ tree.old) × (leaf.new ≡ leaf.old)) }
 {
-    task.recall();
-    unifiers_partition();
-    more_general_is_a_preorder();
     match look(task, tree, effort)? {
         Looked::Over => Ok(Step::Over),
-        Looked::Open(i, j) => {
-            tree.ask(task.alloc, task.sig, &task.table, i, j)?;
-            *leaf = None;
-            Ok(Step::More)
-        }
-        Looked::Together(i, j) => {
-            tree.meet(task.alloc, task.sig, &task.table, i, j)?;
-            *leaf = None;
-            Ok(Step::More)
-        }
-        Looked::Apart(i, j) => {
-            tree.part(task.alloc, task.sig, &task.table, i, j)?;
-            *leaf = None;
-            Ok(Step::More)
-        }
-        Looked::Parted(i, j) => {
-            tree.part(task.alloc, task.sig, &task.table, i, j)?;
-            *leaf = None;
-            Ok(Step::More)
-        }
-        Looked::Passed => {
-            let _last = tree.take_top();
-            *leaf = None;
-            Ok(Step::More)
-        }
+        Looked::Open(i, j) => ask_last(task, tree, leaf, i, j),
+        Looked::Together(i, j) => meet_last(task, tree, leaf, i, j),
+        Looked::Apart(i, j) => part_last(task, tree, leaf, i, j),
+        Looked::Parted(i, j) => part_last_general(task, tree, leaf, i, j),
+        Looked::Passed => Ok(pass_last(task, tree, leaf)),
         Looked::Refused(f, system) => Ok(Step::End(Ended::Basis(f, system))),
-        Looked::Leaf(opened) => match tree.take_top() {
-            None => Ok(Step::Over),
-            Some(state) => {
-                *leaf = Some(Leaf { state, opened });
-                Ok(Step::More)
-            }
-        },
+        Looked::Leaf(opened) => Ok(open_last(task, tree, leaf, opened)),
     }
 }
 

@@ -1,13 +1,10 @@
--- The table holds arguments, is small and has sums; what is inferred is said of each unifier.
+-- The table holds arguments, is small and has sums; what is read and known is of the task.
 use Rattle.std.proofs.Common.{◌≡◌, sym, subst, arith}
 use Rattle.fvn_flat.specs.Solving.{problem_of}
-use Rattle.fvn_combine_nodes.specs.States.{IsClosed}
+use Rattle.fvn_combine_nodes.specs.States.{IsClosed, class_of}
+use Rattle.fvn_combine_leaves.specs.Readings.{IsReading}
+use Rattle.fvn_combine_inferring.specs.Inferred.{TellHeads}
 use Rattle.fvn_combine.specs.Tasks.{Combining}
-use Rattle.fvn_combine_inferring.specs.Inferred.{IsInferred}
-use Rattle.fvn_combine_inferring.specs.declared.inferring.Inferred.{Inferred}
-use Rattle.fvn_combine_inferring.specs.declared.inferring.Inferred.TheVariants.{Impossible, Together, Question}
-use Rattle.fvn_combine.proofs.Inferring.{none_admitted, together_admitted}
-use Rattle.fvn_combine.proofs.looking.look_within.Goals.{In_ok-infer}
 use Rattle.fvn_combine.proofs.looking.look_within.Goals as goal
 
 pub read-requires-clause-closed : goal.read-requires-clause-closed
@@ -26,30 +23,18 @@ pub known_of-requires-clause-sums : goal.known_of-requires-clause-sums
 known_of-requires-clause-sums c =
     c.tables_have_sums.ensures c.task.inside.sig.now c.task.invariant.good.fits (problem_of c.task.inside.problem.now) c.task.invariant.is_given.kinds c.task.inside.table c.task.invariant.well_made c.task.invariant.table_of
 
-pub infer-requires-clause-sums : goal.infer-requires-clause-sums
-infer-requires-clause-sums c =
-    c.tables_have_sums.ensures c.task.inside.sig.now c.task.invariant.good.fits (problem_of c.task.inside.problem.now) c.task.invariant.is_given.kinds c.task.inside.table c.task.invariant.well_made c.task.invariant.table_of
+pub look_inferred-requires : goal.look_inferred-requires
+look_inferred-requires c = record {
+  closed = c.requires;
+  reading = subst (λ (k : Combining). IsReading k.declarations k.table (class_of c.args.state.now) c.in_ok-reading.reading) c.task.view_is c.in_ok-reading.ensures;
+  heads = subst (λ (k : Combining). TellHeads k.declarations k.table c.args.state.now c.in_ok-known.known.sorted c.in_ok-known.known.heads.items) c.task.view_is c.in_ok-known.ensures.heads;
+  sorted = subst (λ (k : Combining). c.in_ok-known.known.sorted ≡ k.sorted) c.task.view_is c.in_ok-known.ensures.sorted;
+}
 
--- what is inferred, of the task
-inferred : (c : In_ok-infer) → (r : Inferred) → c.in_ok-infer.field-0 ≡ r → IsInferred c.args.task.now.declarations c.args.task.now.table c.args.state.now c.args.task.now.sorted r
-inferred c r is =
-    subst (λ (k : Combining). IsInferred k.declarations k.table c.args.state.now k.sorted r) c.task.view_is
-    (subst (λ b. IsInferred c.task.inside.sig.now c.task.inside.table c.args.state.now b r) c.in_ok-known.ensures.sorted
-    (subst (IsInferred c.task.inside.sig.now c.task.inside.table c.args.state.now c.in_ok-known.known.sorted) is c.in_ok-infer.ensures))
-
-pub returns-in-Impossible : goal.returns-in-Impossible
-returns-in-Impossible c =
-    none_admitted c.args.task.now c.recall.ensures c.sorted_unifiers_go_with.ensures c.args.state.now c.requires (inferred (goal.at.returns-in-Impossible c).In_ok-infer Impossible c.in-Impossible.is)
-
-pub returns-in-Together : goal.returns-in-Together
-returns-in-Together c =
-    let i = c.in-Together.i in
-    let j = c.in-Together.j in
-    let must = inferred (goal.at.returns-in-Together c).In_ok-infer (Together i j) c.in-Together.is in
-    let open_pair = must.open_pair in
-    (open_pair.left, open_pair.right, open_pair.undecided, together_admitted c.args.task.now c.recall.ensures c.sorted_unifiers_go_with.ensures c.args.state.now c.requires i j open_pair.left open_pair.right must.equal)
-
-pub worth_asking-requires : goal.worth_asking-requires
-worth_asking-requires c =
-    let q = inferred (goal.at.worth_asking-requires c).In_ok-infer (Question c.in-Question.i c.in-Question.j) c.in-Question.is in
-    record { closed = c.requires; left = q.left; right = q.right; «open» = q.undecided }
+pub look_further-requires : goal.look_further-requires
+look_further-requires c = record {
+  closed = c.requires;
+  reading = subst (λ (k : Combining). IsReading k.declarations k.table (class_of c.args.state.now) c.in_ok-reading.reading) c.task.view_is c.in_ok-reading.ensures;
+  heads = subst (λ (k : Combining). TellHeads k.declarations k.table c.args.state.now c.in_ok-known.known.sorted c.in_ok-known.known.heads.items) c.task.view_is c.in_ok-known.ensures.heads;
+  sorted = subst (λ (k : Combining). c.in_ok-known.known.sorted ≡ k.sorted) c.task.view_is c.in_ok-known.ensures.sorted;
+}

@@ -1,7 +1,7 @@
 -- The options are few, and each choice that covers a unifier is listed by options and numbers.
 use Rattle.std.proofs.Common.{◌*◌, ◌<◌, ◌≤◌, length, sym, ap, ◌∙◌, subst, All}
 use Rattle.std.proofs.Math.Nat.{le_trans, mul-le-mul_right}
-use Rattle.fvn_combine_nodes.specs.States.{class_of}
+use Rattle.fvn_combine_nodes.specs.States.{class_of, IsClosed}
 use Rattle.fvn_acunify_product.specs.Weight.{product}
 use Rattle.fvn_acunify_product.specs.Tags.{tags_left}
 use Rattle.fvn_combine_drawing.specs.CombineCandidatesSharing.{AreSharedClasses}
@@ -9,6 +9,7 @@ use Rattle.fvn_combine_drawing.specs.CombineCandidatesTags.{tag_counts}
 use Rattle.fvn_combine_drawing.specs.CombineCandidatesDeclared.sharing.SharedClass.{SharedClass}
 use Rattle.fvn_combine.specs.Tasks.{Combining}
 use Rattle.fvn_combine.specs.Work.{most_tags, most_numbers}
+use Rattle.fvn_combine_leaves.specs.Readings.{IsReading}
 use Rattle.fvn_combine.proofs.Less.{few_tags, alone-le}
 use Rattle.fvn_combine.proofs.Opening.{few_users, all_to_come}
 use Rattle.fvn_combine.proofs.opened.open.Goals as goal
@@ -38,3 +39,9 @@ returns-clause-few c =
     let bounded = subst (λ l. tags_left c.in_ok-tags.tags ≤ product l) counts c.in_ok-tags.ensures.bounded in
     let all : tags_left c.in_ok-tags.tags ≤ most_tags k = le_trans bounded few in
     alone-le (tags_left c.in_ok-tags.tags * most_numbers k) (most_tags k * most_numbers k) (mul-le-mul_right (most_numbers k) all)
+
+pub shared-requires-clause-closed : goal.shared-requires-clause-closed
+shared-requires-clause-closed c = subst (λ (k : Combining). IsClosed k.declarations k.table c.args.state.now) (sym c.task.view_is) c.requires.ready.closed
+
+pub shared-requires-clause-reading : goal.shared-requires-clause-reading
+shared-requires-clause-reading c = subst (λ (k : Combining). IsReading k.declarations k.table (class_of c.args.state.now) c.args.reading) (sym c.task.view_is) c.requires.reading

@@ -1,7 +1,8 @@
 -- The numbers that are passed cover nothing, or only what is given.
 use Rattle.std.proofs.Common.{refl, sym, subst, inl, inr, arith}
 use Rattle.fvn_combine_nodes.specs.States.{class_of}
-use Rattle.fvn_combine_drawing.specs.CombineTriangularReady.{AreListed}
+use Rattle.fvn_combine_leaves.specs.Readings.{IsReading}
+use Rattle.fvn_combine_drawing.specs.CombineTriangularReady.{AreListed, IsReady}
 use Rattle.fvn_combine_drawing.specs.Choices.{IsListedChoice}
 use Rattle.fvn_combine_drawing.specs.Drawn.{IsDrawnBy}
 use Rattle.fvn_combine_drawing.specs.CombineAdmissibleListed.{tag_in, systems_of, choice_of}
@@ -89,3 +90,24 @@ returns-in-Unifier-clause-falls c =
     let l = c.choices.invariant.less in
     let f = c.advance-in-Unifier.ensures.falls c.in-Some.numbers.now c.in-Some.ensures.value in
     omega (arith, l, f)
+
+pub returns-in-Unifier-clause-turning : goal.returns-in-Unifier-clause-turning
+returns-in-Unifier-clause-turning c =
+    still_turning c.args.task.now c.args.state.now c.args.reading.now c.args.bases.now c.choices.turning.tags c.choices.turning.wheels c.advance-in-Unifier.new.self c.advance-in-Unifier.ensures.taken c.args.shared.now c.advance-in-Unifier.ensures.wheels c.choices.invariant.turning
+
+pub returns-in-TooLarge-clause-drawn : goal.returns-in-TooLarge-clause-drawn
+returns-in-TooLarge-clause-drawn c =
+    let k = c.args.task.now in
+    let s = c.args.state.now in
+    let r = c.args.reading.now in
+    let b = c.args.bases.now in
+    let drawn = subst (λ (k : Combining). IsDrawnBy k.declarations k.given k.first k.size k.table s (systems_of r b) (choice_of r c.choices.turning.tags c.in-Some.numbers.now) c.in_ok-drawn.drawn) c.task.view_is
+    (subst (λ l. IsDrawnBy c.task.inside.sig.now c.task.inside.problem.now c.task.inside.first c.task.inside.size c.task.inside.table s (systems_of r b) (choice_of r l c.in-Some.numbers.now) c.in_ok-drawn.drawn) c.as_slice.ensures c.in_ok-drawn.ensures) in
+    let large = subst (IsDrawnBy k.declarations k.given k.first k.size k.table s (systems_of r b) (choice_of r c.choices.turning.tags c.in-Some.numbers.now)) c.in-TooLarge.is drawn in
+    (large, c.choices.invariant.kept)
+
+pub draw-requires-clause-ready : goal.draw-requires-clause-ready
+draw-requires-clause-ready c = subst (λ (k : Combining). IsReady k.declarations k.given k.first k.table c.args.state.now) (sym c.task.view_is) c.requires.ready
+
+pub draw-requires-clause-reading : goal.draw-requires-clause-reading
+draw-requires-clause-reading c = subst (λ (k : Combining). IsReading k.declarations k.table (class_of c.args.state.now) c.args.reading.now) (sym c.task.view_is) c.requires.reading

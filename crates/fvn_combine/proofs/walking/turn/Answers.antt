@@ -3,7 +3,9 @@ use Rattle.std.proofs.Common.{◌≡◌, ◌<◌, List, length, sym, ap, ◌∙�
 use Rattle.std.proofs.Math.Nat.{le_trans}
 use Rattle.fvn_terms.specs.declared.plain.OpId.{OpId}
 use Rattle.fvn_lindio.specs.declared.system.Solution.{Solution}
-use Rattle.fvn_combine_nodes.specs.States.{class_of}
+use Rattle.fvn_combine_nodes.specs.States.{IsClosed, class_of}
+use Rattle.fvn_combine_leaves.specs.Bases.{AreBases}
+use Rattle.fvn_combine_leaves.specs.Readings.{IsReading}
 use Rattle.fvn_combine_drawing.specs.CombineAdmissibleListed.{tag_in}
 use Rattle.fvn_combine_drawing.specs.CombineCandidatesTags.{AreTags}
 use Rattle.fvn_combine_drawing.specs.CombineCandidatesDeclared.sharing.SharedClass.{SharedClass}
@@ -64,3 +66,12 @@ returns-in-Some-first_against-clause-turned c =
     c.in-Some-first_against.ensures)))) in
     passed c.args.task.now c.args.state.now o c.requires.opened c.recall.ensures c.in-Some.options.now c.in-Some.ensures.greatest.0 tags are place against
     c.skip.new.self c.skip.ensures.counts c.in-Some.ensures.value c.skip.ensures.taken c.skip.ensures.kept (c.skip.ensures.falls c.in-Some.options.now c.in-Some.ensures.value)
+
+pub wheels-requires : goal.wheels-requires
+wheels-requires c =
+    let o = c.requires.opened in
+    record {
+      closed = subst (λ (k : Combining). IsClosed k.declarations k.table c.args.state.now) (sym c.task.view_is) o.ready.closed;
+      reading = subst (λ (k : Combining). IsReading k.declarations k.table (class_of c.args.state.now) c.args.opened.now.reading) (sym c.task.view_is) o.reading;
+      bases = subst (λ l. AreBases c.args.opened.now.reading.sums l) (sym c.as_slice-6.ensures) o.bases;
+    }
