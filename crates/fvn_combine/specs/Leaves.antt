@@ -1,5 +1,5 @@
 -- A leaf that is open, and its choices that are still to come.
-use Rattle.std.specs.Prelude.{◌≡◌, ◌⊎◌, ℕ, true, List, length, Option, Some, None}
+use Rattle.std.specs.Prelude.{◌≡◌, ◌⊎◌, ℕ, true, false, List, [], length, Option, Some, None, All}
 use Rattle.fvn_terms.specs.declared.plain.OpId.{OpId}
 use Rattle.fvn_terms.specs.Substitution.{Substitution}
 use Rattle.fvn_lindio.specs.declared.system.Solution.{Solution}
@@ -21,6 +21,8 @@ use Rattle.fvn_combine_leaves.specs.Bases.{AreBases}
 use Rattle.fvn_combine_drawing.specs.CombineCandidatesSharing.{AreSharedClasses}
 use Rattle.fvn_combine_drawing.specs.CombineCandidatesTags.{tag_counts, AreTags}
 use Rattle.fvn_combine_drawing.specs.CombineCandidatesTurning.{AreWheels}
+use Rattle.fvn_combine_loose.specs.Loose.{IsLooseClass}
+use Rattle.fvn_combine_loose.specs.Laws.{AreVariables}
 use Rattle.fvn_combine_inferring.specs.Inferred.{TellHeads}
 use Rattle.fvn_combine_inferring.specs.Sorted.{GoWithSorts}
 use Rattle.fvn_combine_drawing.specs.CombineTriangularReady.{IsReady}
@@ -71,11 +73,12 @@ module _ (k : Combining) (s : State) where
     pub as_many : length numbers ≡ length o.reading.sums
     pub covered : (tags : List (Option OpId)) → AreTags o.shared options tags → IsCoveredBy o.reading o.bases tags numbers u
 
-  -- a choice of the leaf that is still to come covers u
+  -- u has variables in the classes that are known to be loose, and a choice of the leaf that is still to come covers it
   abbrev pub IsCoveredToCome : Opened → Substitution → Type 0
-  IsCoveredToCome o u = IsCoveredNow o u ⊎ IsCoveredLater o u
+  IsCoveredToCome o u = AreVariables k.declarations k.table o.loose u × (IsCoveredNow o u ⊎ IsCoveredLater o u)
 
-  -- what is read of the leaf and known of its classes, its minimal solutions, its shared classes and their tags, and the wheels under current tags
+  -- what is read of the leaf and known of its classes, its minimal solutions, its shared classes and their tags, the wheels under current
+  -- tags, and loose classes, where more general unifiers are enough
   pub record IsOpened (o : Opened) : Type 0 where
     pub ready : IsReady k.declarations k.given k.first k.table s
     pub leaf : IsLeaf k.declarations k.table s
@@ -86,3 +89,5 @@ module _ (k : Combining) (s : State) where
     pub shared : AreSharedClasses k.declarations k.table (class_of s) k.sorted o.shared
     pub counts : o.tags.counts ≡ tag_counts o.shared
     pub turning : (v : Turning) → o.turning ≡ Some v → IsTurning o.reading o.bases o.shared v
+    pub loose : All (IsLooseClass k.declarations k.table s) o.loose
+    pub none_loose : k.general ≡ false → o.loose ≡ []

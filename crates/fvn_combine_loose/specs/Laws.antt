@@ -1,17 +1,19 @@
 -- Laws of loose classes.
-use Rattle.std.specs.Prelude.{◌≢◌, ℕ}
+use Rattle.std.specs.Prelude.{◌≡◌, ◌≢◌, ℕ, List, All}
+use Rattle.fvn_terms.specs.declared.plain.Var.{Var}
 use Rattle.fvn_terms.specs.declared.declarations.Declarations.{Declarations}
 use Rattle.fvn_terms.specs.Substitution.{Substitution}
 use Rattle.fvn_terms.specs.Unifiers.{Problem}
+use Rattle.fvn_forms.specs.Flat.{fvar}
 use Rattle.fvn_forms.specs.Good.{IsGood}
 use Rattle.fvn_flat.specs.Problems.{IsProblem, variables_of}
 use Rattle.fvn_flat.specs.SolvedLists.{IsKindUnifier}
 use Rattle.fvn_combine_nodes.specs.Table.{NodeTable, IsWellMade, IsTableOf}
 use Rattle.fvn_combine_nodes.specs.States.{Admits, IsClosed}
-use Rattle.fvn_combine_nodes.specs.Unifiers.{kernel}
+use Rattle.fvn_combine_nodes.specs.Unifiers.{value_at, kernel}
 use Rattle.fvn_combine_nodes.specs.declared.state.State.{State}
 use Rattle.fvn_combine_loose.specs.MoreGeneral.{IsMoreGeneral}
-use Rattle.fvn_combine_loose.specs.Loose.{AreParted}
+use Rattle.fvn_combine_loose.specs.Loose.{IsLooseClass, AreParted}
 
 -- v unifies on kinds, is more general than u, and has all that the state has decided
 pub record IsLoosened (d : Declarations) (problem : Problem) (t : NodeTable) (s : State) (u v : Substitution) : Type 0 where
@@ -25,6 +27,18 @@ LooseClassesPart =
     (d : Declarations) → IsGood d → (problem : Problem) → IsProblem d problem → (t : NodeTable) → IsWellMade t → IsTableOf d problem t
     → (s : State) → IsClosed d t s → (i j : ℕ) → AreParted d t s i j → (u : Substitution) → IsKindUnifier d problem u → Admits s (kernel d u t.nodes)
     → (v : Substitution) × IsLoosened d problem t s u v × (kernel d v t.nodes i ≢ kernel d v t.nodes j)
+
+-- the values of these nodes under v are variables
+abbrev pub AreVariables : Declarations → NodeTable → List ℕ → Substitution → Type 0
+AreVariables d t nodes v = All (λ z. (x : Var) × (value_at d v t.nodes z ≡ fvar x)) nodes
+
+-- where these nodes are of loose classes, each unifier of the state has a more general one under which their values are variables
+abbrev pub LooseClassesAreVariables : Type 0
+LooseClassesAreVariables =
+    (d : Declarations) → IsGood d → (problem : Problem) → IsProblem d problem → (t : NodeTable) → IsWellMade t → IsTableOf d problem t
+    → (s : State) → IsClosed d t s → (nodes : List ℕ) → All (IsLooseClass d t s) nodes
+    → (u : Substitution) → IsKindUnifier d problem u → Admits s (kernel d u t.nodes)
+    → (v : Substitution) × IsLoosened d problem t s u v × AreVariables d t nodes v
 
 -- each substitution is more general than itself, and what is more general than a more general one is so
 pub record MoreGeneralIsAPreorder : Type 0 where

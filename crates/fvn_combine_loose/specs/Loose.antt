@@ -45,6 +45,11 @@ module _ (d : Declarations) (t : NodeTable) (s : State) where
       pub sorts : (i j : ℕ) (x : Variable) (f : OpId) (ks : List ℕ) → slice_get t.nodes i ≡ Some (Var x) → IsOver t.nodes j f ks
           → class_of s i ≡ class_of s j → StandsIn j → HasSort d (term_at t.nodes j) x.sort
 
+  -- the class of node z is loose, by some heights
+  pub record IsLooseClass (z : ℕ) : Type 0 where
+    pub heights : List ℕ
+    pub loose : IsLoose z heights
+
   -- the heights of the classes in which some loose class stands
   pub record AreHeights (heights : List ℕ) : Type 0 where
     pub as_many : length heights ≡ length t.nodes

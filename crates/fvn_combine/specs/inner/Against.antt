@@ -18,10 +18,15 @@ pub record IsAgainst (d : Declarations) (heads tags : List (Option OpId)) (c : S
   pub user : Contains c.users head
   pub other : tag_in tags c.class ≢ Some head
 
-module _ (d : Declarations) (heads : List (Option OpId)) (r : Reading) (bases : List (List Solution)) where
-  -- so it is with one of the shared classes whose tags are decided, or these tags leave one without a home
+-- the class is one of those that are known to be loose, and it has a tag
+pub record IsLooseAgainst (loose : List ℕ) (tags : List (Option OpId)) (c : SharedClass) : Type 0 where
+  pub loose_class : Contains loose c.class
+  pub tagged : tag_in tags c.class ≢ None
+
+module _ (d : Declarations) (heads : List (Option OpId)) (loose : List ℕ) (r : Reading) (bases : List (List Solution)) where
+  -- so it is with one of the shared classes whose tags are decided, or one that is loose has a tag, or these tags leave one without a home
   abbrev pub IsAgainstUpTo : List SharedClass → List (Option OpId) → Type 0
-  IsAgainstUpTo decided tags = Any (IsAgainst d heads tags) decided ⊎ LeaveHomeless decided tags r bases
+  IsAgainstUpTo decided tags = Any (IsAgainst d heads tags) decided ⊎ Any (IsLooseAgainst loose tags) decided ⊎ LeaveHomeless decided tags r bases
 
   -- so it is with those up to the place
   pub record IsAgainstAt (shared : List SharedClass) (tags : List (Option OpId)) (place : ℕ) : Type 0 where

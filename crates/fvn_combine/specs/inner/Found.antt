@@ -7,6 +7,7 @@ use Rattle.fvn_combine_nodes.specs.States.{Admits, IsOpen}
 use Rattle.fvn_combine_tree.specs.Trees.{weight}
 use Rattle.fvn_combine_nodes.specs.Unifiers.{kernel}
 use Rattle.fvn_combine_loose.specs.Loose.{AreParted}
+use Rattle.fvn_combine_loose.specs.Laws.{AreVariables}
 use Rattle.fvn_combine_nodes.specs.declared.state.State.{State}
 use Rattle.fvn_acunify_product.specs.Tags.{tags_left}
 use Rattle.fvn_combine_drawing.specs.OnKinds.{IsGivenOnKinds}
@@ -57,14 +58,15 @@ pub record IsSameButCurrent (before after : Opened) : Type 0 where
   pub bases : after.bases ≡ before.bases
   pub shared : after.shared ≡ before.shared
   pub tags : after.tags ≡ before.tags
+  pub loose : after.loose ≡ before.loose
 
 module _ (k : Combining) (s : State) (before after : Opened) where
   -- the next tags are the current ones; where there are none, all is as it was
   abbrev pub IsTurned : Bool → Type 0
   IsTurned false = (after ≡ before) × ((u : Substitution) → IsCoveredLater k s before u → ⊥)
   IsTurned true =
-      IsOpened k s after × (tags_left after.tags < tags_left before.tags)
-      × ((u : Substitution) → IsCoveredLater k s before u → IsCoveredToCome k s after u)
+      IsOpened k s after × (tags_left after.tags < tags_left before.tags) × (after.loose ≡ before.loose)
+      × ((u : Substitution) → AreVariables k.declarations k.table before.loose u → IsCoveredLater k s before u → IsCoveredToCome k s after u)
       × ((u : Substitution) → IsCoveredToCome k s after u → IsCoveredLater k s before u)
       × (leaf_left k after ≤ leaf_left k before)
 
@@ -80,7 +82,8 @@ module _ (k : Combining) where
 
   -- A question is open in the state; two nodes of which it is open are in one class, or in two, under each unifier that it
   -- admits and that is asked for; or in two under one that it admits too, and that stands for this one; it admits none of
-  -- these; none is open, and a sum system of the problem under its partition is refused; or it is a leaf, which is opened.
+  -- these; none is open, and a sum system of the problem under its partition is refused; or it is a leaf, which is opened, and of
+  -- each of these one that stands for it is to come there.
   abbrev pub IsLookedAt : State → Looked → Type 0
   IsLookedAt s Over = ⊥
   IsLookedAt s (Open i j) = (i < length k.table.nodes) × (j < length k.table.nodes) × IsOpen s i j
@@ -97,7 +100,8 @@ module _ (k : Combining) where
   IsLookedAt s Passed = (u : Substitution) → IsAdmittedBy s u → ⊥
   IsLookedAt s (Refused f system) = IsBasisCause k.declarations k.given f system × IsRefusedAt k s f system
   IsLookedAt s (OnLeaf o) =
-      IsOpened k s o × ((u : Substitution) → IsAdmittedBy s u → IsCoveredToCome k s o u)
+      IsOpened k s o
+      × ((u : Substitution) → IsAdmittedBy s u → HoldsFor k (λ v. Admits s (kernel k.declarations v k.table.nodes) × IsCoveredToCome k s o v) u)
       × (leaf_left k o ≤ most_tags k * most_numbers k)
 
   -- this is so of the last state
