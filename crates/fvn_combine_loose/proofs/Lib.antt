@@ -12,5 +12,6 @@ mod Admitted
 mod GivenSorts
 mod Loosening
 mod Preorder
+mod Spreading
 mod Checked
 mod Ranked

@@ -11,7 +11,7 @@ use Rattle.fvn_combine_nodes.specs.declared.state.State.{State}
 use Rattle.fvn_combine_nodes.proofs.Nodes.{term_at-variable}
 use Rattle.fvn_combine_loose.specs.MoreGeneral.{IsMoreGeneral}
 use Rattle.fvn_combine_loose.specs.Loose.{height_of}
-use Rattle.fvn_combine_loose.specs.Laws.{LooseClassesPart}
+use Rattle.fvn_combine_loose.specs.Laws.{IsLoosened, LooseClassesPart}
 use Rattle.fvn_combine_loose.proofs.Setting.{Setting}
 use Rattle.fvn_combine_loose.proofs.Remade.{remade}
 use Rattle.fvn_combine_loose.proofs.After.{after, after_sorted, after_remade}
@@ -33,16 +33,15 @@ module _ {d : Declarations} {problem : Problem} {t : NodeTable} {s : State} {z :
   more_general : IsMoreGeneral d (variables_of problem) u (loosened g)
   more_general = record { instance = loosened_instance; sorts = loosened_sorts g; well_sorted = loosened_well_sorted g }
 
+  pub is_loosened : IsLoosened d problem t s u (loosened g)
+  is_loosened = record { unifies = loosened_unifies g; more_general = more_general; admits = loosened_admitted g }
+
 pub loose_classes : LooseClassesPart
 loose_classes d good problem kinded t made table s closed i j parted u unifier admits =
     let g : Setting d problem t s parted.bottom parted.heights u =
     record { good = good; kinded = kinded; made = made; table = table; closed = closed; loose = parted.loose; unifier = unifier; admits = admits }
     in (
       loosened g,
-      record {
-        unifies = loosened_unifies g;
-        more_general = more_general g;
-        admits = loosened_admitted g;
-      },
+      is_loosened g,
       loosened_apart g i j parted.left parted.right parted.one,
     )

@@ -1,7 +1,8 @@
 //! The heights of the classes in which a loose class stands.
 ghost use Rattle.std.specs.Prelude.{◌≡◌, ◌<◌, length, All, IfOk, IfSome};
 ghost use Rattle.fvn_combine_nodes.specs.States.{IsClosed};
-ghost use Rattle.fvn_combine_loose.specs.Loose.{AreHeights};
+ghost use Rattle.fvn_combine_loose.specs.Loose.{IsLoose, IsLooseClass, AreHeights};
+ghost use Rattle.fvn_combine_loose.specs.inner.Checks.{AreFound};
 ghost use Rattle.fvn_combine_loose.specs.inner.NodeSorts.{HaveSorts};
 
 use crate::checking::is_loose;
@@ -16,6 +17,13 @@ use std::alloc::Global;
 // The most nodes of a table whose loose classes are looked for: what that costs grows with their square.
 const NODES: usize = 200;
 
+// Nodes that name loose classes, and for each the heights of the classes in which it stands.
+#[derive(Drop)]
+struct Found {
+    classes: Vec<usize>,
+    heights: Vec<Seq<usize>>,
+}
+
 // The heights of the classes in which that of node z stands, where it is loose.
 fn heights_from(
     alloc: Global,
@@ -29,7 +37,8 @@ fn heights_from(
     requires closed { IsClosed sig.now table.now state.now }
     requires sorts { HaveSorts sig.now table.now.nodes sorts.now }
     requires bottom { z < length table.now.nodes }
-    ensures { IfOk result (λ o. IfSome o (AreHeights sig.now table.now state.now)) }
+    ensures { IfOk result (λ o. IfSome o (λ h.
+        (length h ≡ length table.now.nodes) × IsLoose sig.now table.now state.now z h)) }
 {
     if !may_be_loose(state, ways, z) {
         return Ok(None);
@@ -49,26 +58,60 @@ fn heights_from(
     Ok(None)
 }
 
-// For each loose class that may be found the heights of the classes in which it stands.
-fn all_heights(
+// The loose classes that are found among those that may be loose.
+fn found_by(
     alloc: Global,
     sig: &Signature,
     table: &Table,
     state: &State,
     ways: &Ways,
-) -> Result<Vec<Seq<usize>>, NoMemory>
+) -> Result<Found, NoMemory>
     requires closed { IsClosed sig.now table.now state.now }
-    ensures { IfOk result (λ all. All (λ h. AreHeights sig.now table.now state.now h) all.items) }
+    ensures { IfOk result (λ found. AreFound sig.now table.now state.now found.classes.items found.heights.items) }
 {
     let sorts = node_sorts(alloc, sig, table)?;
+    let mut classes = Vec::new(alloc);
     let mut all = Vec::new(alloc);
     for z in 0..table.nodes().len() {
         let found = heights_from(alloc, sig, table, state, sorts.as_slice(), ways, z)?;
         match found {
             None => {}
-            Some(heights) => all.push(heights)?,
+            Some(heights) => {
+                classes.push(z)?;
+                all.push(heights)?;
+            }
         }
     }
+    Ok(Found {
+        classes,
+        heights: all,
+    })
+}
+
+// The loose classes that are found.
+fn find_loose(
+    alloc: Global,
+    sig: &Signature,
+    table: &Table,
+    state: &State,
+) -> Result<Found, NoMemory>
+    requires closed { IsClosed sig.now table.now state.now }
+    ensures { IfOk result (λ found. AreFound sig.now table.now state.now found.classes.items found.heights.items) }
+{
+    if table.nodes().len() > NODES {
+        return Ok(Found {
+            classes: Vec::new(alloc),
+            heights: Vec::new(alloc),
+        });
+    }
+    let ways = ways_of(alloc, table, state)?;
+    if !has_candidate(table, state, &ways) {
+        return Ok(Found {
+            classes: Vec::new(alloc),
+            heights: Vec::new(alloc),
+        });
+    }
+    let all = found_by(alloc, sig, table, state, &ways)?;
     Ok(all)
 }
 
@@ -84,13 +127,22 @@ pub fn loose_heights(
     requires closed { IsClosed sig.now table.now state.now }
     ensures { IfOk result (λ all. All (λ h. AreHeights sig.now table.now state.now h) all.items) }
 {
-    if table.nodes().len() > NODES {
-        return Ok(Vec::new(alloc));
-    }
-    let ways = ways_of(alloc, table, state)?;
-    if !has_candidate(table, state, &ways) {
-        return Ok(Vec::new(alloc));
-    }
-    let all = all_heights(alloc, sig, table, state, &ways)?;
-    Ok(all)
+    let all = find_loose(alloc, sig, table, state)?;
+    Ok(all.heights)
+}
+
+/// Nodes that name the loose classes of a state.
+///
+/// Classes may be left out: which there are is left open.
+pub fn loose_classes(
+    alloc: Global,
+    sig: &Signature,
+    table: &Table,
+    state: &State,
+) -> Result<Vec<usize>, NoMemory>
+    requires closed { IsClosed sig.now table.now state.now }
+    ensures { IfOk result (λ all. All (IsLooseClass sig.now table.now state.now) all.items) }
+{
+    let all = find_loose(alloc, sig, table, state)?;
+    Ok(all.classes)
 }

@@ -1,10 +1,16 @@
 //! Laws of loose classes, each the contract of a function that does nothing.
-ghost use Rattle.fvn_combine_loose.specs.Laws.{LooseClassesPart, MoreGeneralIsAPreorder};
+ghost use Rattle.fvn_combine_loose.specs.Laws.{LooseClassesPart, LooseClassesAreVariables, MoreGeneralIsAPreorder};
 
 /// Where a loose class stands in one of two classes alone, each unifier of the state has a more general one under which
 /// they are apart.
 pub fn loose_classes_part()
     ensures { LooseClassesPart }
+{}
+
+/// Where nodes are of loose classes, each unifier of the state has a more general one under which the values of all of them
+/// are variables.
+pub fn loose_classes_are_variables()
+    ensures { LooseClassesAreVariables }
 {}
 
 /// Being more general is a preorder.

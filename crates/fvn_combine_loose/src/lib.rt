@@ -8,6 +8,6 @@ mod laws;
 mod parting;
 mod sorts;
 
-pub use heights::loose_heights;
-pub use laws::{loose_classes_part, more_general_is_a_preorder};
+pub use heights::{loose_classes, loose_heights};
+pub use laws::{loose_classes_are_variables, loose_classes_part, more_general_is_a_preorder};
 pub use parting::{are_parted, open_identity};

@@ -10,6 +10,7 @@ use Rattle.fvn_combine_nodes.specs.Classes.{AreTogether}
 use Rattle.fvn_combine_nodes.specs.States.{class_of}
 use Rattle.fvn_combine_nodes.specs.declared.state.State.{State}
 use Rattle.fvn_combine_nodes.specs.declared.table.Node.TheVariants.{Var}
+use Rattle.fvn_combine_loose.specs.Loose.{IsLooseClass, AreHeights}
 
 -- the height of node i's class
 abbrev pub height_in : State → List ℕ → ℕ → ℕ
@@ -78,3 +79,8 @@ module _ (d : Declarations) (t : NodeTable) (s : State) where
   -- what is checked of the sort of node i
   abbrev pub IsSorted : List ℕ → (z i : ℕ) → Type 0
   IsSorted heights z i = (x : Variable) → slice_get t.nodes i ≡ Some (Var x) → class_of s i ≢ class_of s z → 0 < height_in s heights i → AreOfSort i x.sort
+
+  -- these nodes are of loose classes, and these are heights of such classes
+  pub record AreFound (classes : List ℕ) (all : List (List ℕ)) : Type 0 where
+    pub classes_loose : All (IsLooseClass d t s) classes
+    pub all_heights : All (AreHeights d t s) all
