@@ -34,6 +34,7 @@ use Rattle.fvn_combine_complete.proofs.Asked.{uses_told}
 use Rattle.fvn_combine_complete.proofs.Meeting.{component_at, not_unused}
 use Rattle.fvn_combine_complete.specs.Neutral.{IsNeutral}
 use Rattle.fvn_combine_complete.proofs.Marked.{number_by, marked, number_small, chosen_marked, AreMarks, marks_long, as_many_marked, laid_for_is, MarkedAt, marked_at, sums_grow, sums_stay, empty_passes}
+use Rattle.fvn_combine_complete.proofs.Surely.{no_sum_for_sure}
 use Rattle.fvn_combine_complete.proofs.Taken.{contains_counted, laid_counts, sum_by_alike}
 use Rattle.fvn_combine_complete.proofs.Touching.{touched_none}
 use Rattle.fvn_combine_complete.proofs.TwoSummands.{shared_two}
@@ -232,6 +233,7 @@ module _ (d : Declarations) (t : NodeTable) (made : IsWellMade t) (has : HasSums
         let minimal = (exact together.solution).0 (subst (Contains (y.basis f)) v_is (Contains-get_or (y.basis f) r.place [] r.within)) in
         absurd (constants_differ d t made has s leaf told values go_with c.tag obey f k l hk hl n
         (leaf.constants f k l (may_be d t made has s leaf told values go_with c.tag obey f k hk) (may_be d t made has s leaf told values go_with c.tag obey f l hl)
+        (no_sum_for_sure d t made has s leaf told values go_with c.tag obey f k hk) (no_sum_for_sure d t made has s leaf told values go_with c.tag obey f l hl)
         (record { columns = y.columns f; system = y.system f; is = is_node_system; solution = together.solution; minimal = minimal; left = together.left; right = together.right })
         (alike_live d t made has s leaf told values go_with c.tag obey f (y.columns f) together.solution alike))
         (alike k l hk hl together.left together.right))

@@ -56,15 +56,16 @@ pub record IsName (t : NodeTable) (class : ℕ → ℕ) (k : ℕ) : Type 0 where
   pub within : k < length t.nodes
 
 module _ (d : Declarations) (t : NodeTable) (made : IsWellMade t) (s : State) (leaf : IsLeaf d t s) where
+  -- what a node's class is called is its name
+  pub node_name : (i k : ℕ) → i < length t.nodes → class_of s i ≡ k → IsName t (class_of s) k
+  node_name i k l e =
+      let w = leaf.closed.whole in
+      let m : i < length s.names = omega (arith, l, w) in
+      let n = named_within s leaf.closed.naming i m in
+      record { own = ap (class_of s) (sym e) ∙ (leaf.closed.naming.named i m).1 ∙ e; within = omega (arith, n, w, e) }
+
   pub own_name : (f : OpId) (k : ℕ) → IsNodeColumn t (class_of s) f k → IsName t (class_of s) k
-  own_name f k h = let n = column_of_node made.ordered f k h in at n.0 n.1.0 n.1.1
-    where
-      at : (i : ℕ) → i < length t.nodes → class_of s i ≡ k → IsName t (class_of s) k
-      at i l e =
-          let w = leaf.closed.whole in
-          let m : i < length s.names = omega (arith, l, w) in
-          let n = named_within s leaf.closed.naming i m in
-          record { own = ap (class_of s) (sym e) ∙ (leaf.closed.naming.named i m).1 ∙ e; within = omega (arith, n, w, e) }
+  own_name f k h = let n = column_of_node made.ordered f k h in node_name n.0 k n.1.0 n.1.1
 
 module _ (d : Declarations) (t : NodeTable) (s : State) (values : ℕ → FlatTerm) (go_with : GoWith d t s values) where
   -- the class of a node is that of the value

@@ -2,6 +2,7 @@
 mod Heads
 mod Identities
 mod Values
+mod Surely
 mod Meeting
 mod Supporting
 mod Telling

@@ -1,5 +1,5 @@
 -- What is counted of values that go with a leaf meets what is asked of a choice.
-use Rattle.std.proofs.Common.{◌≡◌, ◌≢◌, ℕ, zero, ◌<◌, List, [], ◌∷◌, length, get_or, sym, ap, ◌∙◌, subst, inl, inr, arith, Contains, Option, slice_get}
+use Rattle.std.proofs.Common.{◌≡◌, ◌≢◌, ℕ, ◌<◌, List, [], ◌∷◌, length, get_or, sym, ap, ◌∙◌, subst, inl, inr, arith, Contains, Option, slice_get}
 use Rattle.std.specs.Prelude.{Bool, pos, ◌↔◌}
 use Rattle.std.proofs.lemmas.Bool.{cases_order}
 use Rattle.std.proofs.lemmas.List.{get_or-map, get_or_default}
@@ -29,6 +29,7 @@ use Rattle.fvn_combine_choices.specs.Binding.{IsConstant, AreAsked}
 use Rattle.fvn_combine_choices.specs.Tables.{HasSums}
 use Rattle.fvn_combine_complete.specs.Obeying.{IsTold, GoWith, ObeyTags}
 use Rattle.fvn_combine_complete.specs.Laws.{CountsMeet}
+use Rattle.fvn_combine_complete.proofs.Surely.{no_sum_for_sure}
 use Rattle.fvn_combine_complete.proofs.Values.{constant_alone, constants_differ, alike_live, may_be, bound_used, required_some}
 pub use Rattle.fvn_combine_systems.proofs.Weighing.{component_at}
 
@@ -102,6 +103,7 @@ module _ (law : CountsSolve) (d : Declarations) (t : NodeTable) (made : IsWellMa
                 let right : 0 < component columns v l = let a = component_at columns v is.distinct e re.0 in omega (arith, a, q) in
                 constants_differ d t made has s leaf told values go_with tag obey f k l rc.1 re.1 (columns_apart c e ne rc.0 re.0)
                 (leaf.constants f k l (may_be d t made has s leaf told values go_with tag obey f k rc.1) (may_be d t made has s leaf told values go_with tag obey f l re.1)
+                (no_sum_for_sure d t made has s leaf told values go_with tag obey f k rc.1) (no_sum_for_sure d t made has s leaf told values go_with tag obey f l re.1)
                 (record { columns = columns; system = system; is = is; solution = v; minimal = (exact v).0 b; left = left; right = right })
                 (alike_live d t made has s leaf told values go_with tag obey f columns v (alike_values v alike)))
                 (alike c e m n p q);
