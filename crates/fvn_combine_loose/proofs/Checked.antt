@@ -1,5 +1,5 @@
 -- What is checked of each node makes a class loose.
-use Rattle.std.proofs.Common.{◌≡◌, ◌≢◌, ℕ, zero, suc, ◌<◌, ◌≤◌, List, ◌+◌, length, map, get_or, refl, sym, ap, ◌∙◌, subst, inl, inr, arith, All, Option, Some, None, slice_get}
+use Rattle.std.proofs.Common.{◌≡◌, ◌≢◌, ℕ, zero, suc, ◌<◌, ◌≤◌, Bool, List, ◌+◌, length, map, get_or, refl, sym, ap, ◌∙◌, subst, inl, inr, arith, All, Option, Some, None, slice_get}
 use Rattle.std.specs.Prelude.{Any, max}
 use Rattle.std.proofs.lemmas.List.{get_or-map, length-map, same_lists, get_or_default}
 use Rattle.std.proofs.lemmas.Bool.{cases_eq}
@@ -13,7 +13,7 @@ use Rattle.fvn_combine_nodes.specs.declared.state.State.{State}
 use Rattle.fvn_combine_nodes.specs.declared.table.Node.TheVariants.{App}
 use Rattle.fvn_combine_nodes.proofs.Nodes.{over_unique}
 use Rattle.fvn_combine_loose.specs.Loose.{IsHeaded, IsLoose}
-use Rattle.fvn_combine_loose.specs.inner.Checks.{height_in, IsHighest, IsRaised, IsNoted, IsBuilt, IsSorted}
+use Rattle.fvn_combine_loose.specs.inner.Checks.{height_in, IsHighest, IsRaised, IsNoted, IsBuilt, AreFine}
 
 -- what is not zero
 pub positive : (n : ℕ) → n ≢ 0 → 0 < n
@@ -88,9 +88,12 @@ module _ (s : State) (heights : List ℕ) where
     over = λ stands. h.reached (positive high some);
   }
 
-module _ (d : Declarations) (t : NodeTable) (s : State) (heads : List (Option ℕ)) (heights : List ℕ) (z : ℕ) where
-  module _ (built : (i : ℕ) → i < length t.nodes → IsBuilt t s heads heights z i) where
-    at_over : (i : ℕ) (f : OpId) (ks : List ℕ) → IsOver t.nodes i f ks → IsBuilt t s heads heights z i
+module _ (d : Declarations) (t : NodeTable) (s : State) (marks : List Bool) (heights : List ℕ) (z : ℕ) where
+  module _ (fine : AreFine d t s marks) (built : (i : ℕ) → i < length t.nodes → IsBuilt t s marks heights z i) where
+    abbrev heads : List (Option ℕ)
+    heads = fine.heads
+
+    at_over : (i : ℕ) (f : OpId) (ks : List ℕ) → IsOver t.nodes i f ks → IsBuilt t s marks heights z i
     at_over i f ks is = built i (slice_get_within t.nodes i (App f ks) is)
 
     raised_over : (i : ℕ) (f : OpId) (ks : List ℕ) → IsOver t.nodes i f ks → IsRaised s heights i ks
@@ -101,7 +104,7 @@ module _ (d : Declarations) (t : NodeTable) (s : State) (heads : List (Option �
     elsewhere i f ks is e = (at_over i f ks is).bottom e f ks is
 
     noted_over : (i : ℕ) (f : OpId) (ks : List ℕ) → IsOver t.nodes i f ks → 0 < height_in s heights i → IsNoted t s heads i
-    noted_over i f ks is stands = (at_over i f ks is).noted (elsewhere i f ks is) stands
+    noted_over i f ks is stands = (fine.each i ((at_over i f ks is).marked (elsewhere i f ks is) stands)).noted
 
     -- what is like one node is alike
     same_way : (i j : ℕ) (f g : OpId) (ks ls : List ℕ) → IsOver t.nodes i f ks → IsOver t.nodes j g ls → class_of s i ≡ class_of s j → IsNoted t s heads i → IsNoted t s heads j → (f ≡ g) × AreTogether (class_of s) ks ls
@@ -116,19 +119,20 @@ module _ (d : Declarations) (t : NodeTable) (s : State) (heads : List (Option �
         some_same e = cc
 
   -- so z's class is loose
-  pub loose_from : z < length t.nodes → 0 < height_in s heights z → ((i : ℕ) → i < length t.nodes → IsBuilt t s heads heights z i) → ((i : ℕ) → i < length t.nodes → IsSorted d t s heights z i) → IsLoose d t s z heights
-  loose_from within bottom built sorted = record {
+  pub loose_from : AreFine d t s marks → z < length t.nodes → 0 < height_in s heights z → ((i : ℕ) → i < length t.nodes → IsBuilt t s marks heights z i) → IsLoose d t s z heights
+  loose_from fine within bottom built = record {
     within = within;
     bottom = bottom;
-    open_class = λ h. elsewhere built h.member h.operator h.arguments h.over h.of;
-    upward = λ i f ks is. (raised_over built i f ks is).upward;
-    lower = λ i f ks is. (raised_over built i f ks is).lower;
-    over = λ i f ks is. (raised_over built i f ks is).over;
+    open_class = λ h. elsewhere fine built h.member h.operator h.arguments h.over h.of;
+    upward = λ i f ks is. (raised_over fine built i f ks is).upward;
+    lower = λ i f ks is. (raised_over fine built i f ks is).lower;
+    over = λ i f ks is. (raised_over fine built i f ks is).over;
     headed = λ i l stands other.
-        let n = (built i l).noted other stands in
+        let n = (fine.each i ((built i l).marked other stands)).noted in
         record { member = n.member; operator = n.like.operator; arguments = n.like.arguments; over = n.like.over; of = n.like.of };
     alike = λ i j f g ks ls a b e stands.
-        same_way built i j f g ks ls a b e (noted_over built i f ks a stands) (noted_over built j g ls b (subst (λ c. 0 < get_or heights c 0) e stands));
+        same_way fine built i j f g ks ls a b e (noted_over fine built i f ks a stands) (noted_over fine built j g ls b (subst (λ c. 0 < get_or heights c 0) e stands));
     sorts = λ i j x f ks is over e stands.
-        sorted i (slice_get_within t.nodes i _ is) x is (λ same. elsewhere built j f ks over (sym e ∙ same)) (subst (λ c. 0 < get_or heights c 0) (sym e) stands) j (slice_get_within t.nodes j _ over) f ks over e;
+        let mark = (built i (slice_get_within t.nodes i _ is)).marked (λ same. elsewhere fine built j f ks over (sym e ∙ same)) (subst (λ c. 0 < get_or heights c 0) (sym e) stands) in
+        (fine.each i mark).sorted x is j (slice_get_within t.nodes j _ over) f ks over e;
   }

@@ -1,5 +1,5 @@
 -- What is checked of each node, so that guessed heights are those of the classes in which a loose class stands.
-use Rattle.std.specs.Prelude.{◌≡◌, ◌≢◌, ◌⊎◌, ℕ, ◌<◌, ◌≤◌, List, length, slice_get, slice_index_or, Option, Some, None, All, Any}
+use Rattle.std.specs.Prelude.{◌≡◌, ◌≢◌, ◌⊎◌, ℕ, ◌<◌, ◌≤◌, Bool, true, List, length, slice_get, slice_index_or, Option, Some, None, All, Any}
 use Rattle.fvn_terms.specs.declared.plain.Var.{Var as Variable}
 use Rattle.fvn_terms.specs.declared.plain.OpId.{OpId}
 use Rattle.fvn_terms.specs.declared.plain.SortId.{SortId}
@@ -11,6 +11,10 @@ use Rattle.fvn_combine_nodes.specs.States.{class_of}
 use Rattle.fvn_combine_nodes.specs.declared.state.State.{State}
 use Rattle.fvn_combine_nodes.specs.declared.table.Node.TheVariants.{Var}
 use Rattle.fvn_combine_loose.specs.Loose.{IsLooseClass, AreHeights}
+
+-- node i is marked
+abbrev pub IsMarked : List Bool → ℕ → Type 0
+IsMarked marks i = slice_get marks i ≡ Some true
 
 -- the height of node i's class
 abbrev pub height_in : State → List ℕ → ℕ → ℕ
@@ -60,12 +64,12 @@ module _ (t : NodeTable) where
       pub noted : slice_index_or heads (class_of s i) None ≡ Some member
       pub like : IsLike member i
 
-    module _ (heads : List (Option ℕ)) (heights : List ℕ) (z : ℕ) where
-      -- what is checked of node i, but for sorts
+    module _ (marks : List Bool) (heights : List ℕ) (z : ℕ) where
+      -- what is checked of node i
       pub record IsBuilt (i : ℕ) : Type 0 where
         pub raised : AreRaised t s heights i
         pub bottom : class_of s i ≡ class_of s z → IsVariable i
-        pub noted : class_of s i ≢ class_of s z → 0 < height_in s heights i → IsNoted heads i
+        pub marked : class_of s i ≢ class_of s z → 0 < height_in s heights i → IsMarked marks i
 
 module _ (d : Declarations) (t : NodeTable) (s : State) where
   -- where an operator heads node j, in the class of node i, its term has the sort
@@ -76,9 +80,19 @@ module _ (d : Declarations) (t : NodeTable) (s : State) where
   abbrev pub AreOfSort : ℕ → SortId → Type 0
   AreOfSort i sort = (j : ℕ) → j < length t.nodes → IsOfSort i sort j
 
-  -- what is checked of the sort of node i
-  abbrev pub IsSorted : List ℕ → (z i : ℕ) → Type 0
-  IsSorted heights z i = (x : Variable) → slice_get t.nodes i ≡ Some (Var x) → class_of s i ≢ class_of s z → 0 < height_in s heights i → AreOfSort i x.sort
+  -- node i is like the node that is noted to head its class, and where it is a variable, what operators head there has its sort
+  pub record IsFine (heads : List (Option ℕ)) (i : ℕ) : Type 0 where
+    pub noted : IsNoted t s heads i
+    pub sorted : (x : Variable) → slice_get t.nodes i ≡ Some (Var x) → AreOfSort i x.sort
+
+  -- so is each marked node
+  abbrev pub EachIsFine : List (Option ℕ) → List Bool → Type 0
+  EachIsFine heads marks = (k : ℕ) → IsMarked marks k → IsFine heads k
+
+  -- each marked node is so by some noted heads
+  pub record AreFine (marks : List Bool) : Type 0 where
+    pub heads : List (Option ℕ)
+    pub each : EachIsFine heads marks
 
   -- these nodes are of loose classes, and these are heights of such classes
   pub record AreFound (classes : List ℕ) (all : List (List ℕ)) : Type 0 where
