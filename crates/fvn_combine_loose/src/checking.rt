@@ -2,8 +2,8 @@
 ghost use Rattle.std.specs.Prelude.{◌≡◌, ℕ, ◌<◌, length, slice_index_or, None, All, IsTrue, IfOk};
 ghost use Rattle.fvn_combine_nodes.specs.Classes.{AreTogether};
 ghost use Rattle.fvn_combine_nodes.specs.States.{IsClosed, class_of};
-ghost use Rattle.fvn_combine_loose.specs.Loose.{IsLoose};
-ghost use Rattle.fvn_combine_loose.specs.inner.Checks.{height_in, IsHighest, IsRaised, AreRaised, IsVariable, AreOver, IsLike, IsNoted, IsMarked, IsBuilt, AreOfSort, IsOfSort, IsFine, AreFine};
+ghost use Rattle.fvn_combine_loose.specs.Loose.{height_of, IsLoose};
+ghost use Rattle.fvn_combine_loose.specs.inner.Checks.{IsHighest, IsRaised, AreRaised, IsVariable, AreOver, IsLike, IsNoted, IsMarked, IsBuilt, AreOfSort, IsOfSort, IsFine, AreFine};
 ghost use Rattle.fvn_combine_loose.specs.inner.NodeSorts.{HaveSorts};
 
 use crate::sorts::has_sort;
@@ -15,7 +15,7 @@ use std::alloc::Global;
 // The height of the class of node i.
 pub(crate) fn height_at(state: &State, heights: &[usize], i: usize) -> usize
     requires { i < length state.now.names }
-    ensures { result ≡ height_in state.now heights.now i }
+    ensures { result ≡ height_of state.now heights.now i }
 {
     match heights.get(state.class_of(i)) {
         None => 0,

@@ -10,31 +10,27 @@ use Rattle.fvn_combine_nodes.specs.Classes.{AreTogether}
 use Rattle.fvn_combine_nodes.specs.States.{class_of}
 use Rattle.fvn_combine_nodes.specs.declared.state.State.{State}
 use Rattle.fvn_combine_nodes.specs.declared.table.Node.TheVariants.{Var}
-use Rattle.fvn_combine_loose.specs.Loose.{IsLooseClass, AreHeights}
+use Rattle.fvn_combine_loose.specs.Loose.{height_of, IsLooseClass, AreHeights}
 
 -- node i is marked
 abbrev pub IsMarked : List Bool → ℕ → Type 0
 IsMarked marks i = slice_get marks i ≡ Some true
 
--- the height of node i's class
-abbrev pub height_in : State → List ℕ → ℕ → ℕ
-height_in s heights i = slice_index_or heights (class_of s i) 0
-
 module _ (s : State) (heights : List ℕ) where
   -- one of the classes of two nodes has a height, and the other has none
   abbrev pub StandInOne : ℕ → ℕ → Type 0
-  StandInOne i j = ((0 < height_in s heights i) × (height_in s heights j ≡ 0)) ⊎ ((height_in s heights i ≡ 0) × (0 < height_in s heights j))
+  StandInOne i j = ((0 < height_of s heights i) × (height_of s heights j ≡ 0)) ⊎ ((height_of s heights i ≡ 0) × (0 < height_of s heights j))
 
   -- no height of the classes of these nodes is above it, and where it is not 0 one of them has a height
   pub record IsHighest (ks : List ℕ) (high : ℕ) : Type 0 where
-    pub above : All (λ k. height_in s heights k ≤ high) ks
-    pub reached : 0 < high → Any (λ k. 0 < height_in s heights k) ks
+    pub above : All (λ k. height_of s heights k ≤ high) ks
+    pub reached : 0 < high → Any (λ k. 0 < height_of s heights k) ks
 
   -- node i is above all of these that have a height, and has one exactly where one of these has
   pub record IsRaised (i : ℕ) (ks : List ℕ) : Type 0 where
-    pub upward : Any (λ k. 0 < height_in s heights k) ks → 0 < height_in s heights i
-    pub lower : All (λ k. 0 < height_in s heights k → height_in s heights k < height_in s heights i) ks
-    pub over : 0 < height_in s heights i → Any (λ k. 0 < height_in s heights k) ks
+    pub upward : Any (λ k. 0 < height_of s heights k) ks → 0 < height_of s heights i
+    pub lower : All (λ k. 0 < height_of s heights k → height_of s heights k < height_of s heights i) ks
+    pub over : 0 < height_of s heights i → Any (λ k. 0 < height_of s heights k) ks
 
 -- node i and its arguments are so
 abbrev pub AreRaised : NodeTable → State → List ℕ → ℕ → Type 0
@@ -69,7 +65,7 @@ module _ (t : NodeTable) where
       pub record IsBuilt (i : ℕ) : Type 0 where
         pub raised : AreRaised t s heights i
         pub bottom : class_of s i ≡ class_of s z → IsVariable i
-        pub marked : class_of s i ≢ class_of s z → 0 < height_in s heights i → IsMarked marks i
+        pub marked : class_of s i ≢ class_of s z → 0 < height_of s heights i → IsMarked marks i
 
 module _ (d : Declarations) (t : NodeTable) (s : State) where
   -- where an operator heads node j, in the class of node i, its term has the sort
