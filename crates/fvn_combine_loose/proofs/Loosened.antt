@@ -31,7 +31,7 @@ use Rattle.fvn_combine_loose.proofs.After.{remade_kinded}
 
 module _ {d : Declarations} {problem : Problem} {t : NodeTable} {s : State} {z : ℕ} {heights : List ℕ} {u : Substitution} (g : Setting d problem t s z heights u) where
   abbrev height : ℕ → ℕ
-  height = height_of d t s z heights
+  height = height_of s heights
 
   abbrev loosened_at : (x : Variable) → Decided (Contains (variables_of problem) x) → Term
   loosened_at x (inl c) = remade g (variable_place g.made g.table x c).0

@@ -30,7 +30,7 @@ same_or_other a b = elim (cases_order a b) as (λ _. Decided (a ≡ b)) [
 
 module _ {d : Declarations} {problem : Problem} {t : NodeTable} {s : State} {z : ℕ} {heights : List ℕ} {u : Substitution} (g : Setting d problem t s z heights u) where
   abbrev height : ℕ → ℕ
-  height = height_of d t s z heights
+  height = height_of s heights
 
   -- the new value of node i
   abbrev pub remade : ℕ → Term

@@ -171,17 +171,6 @@ pub(crate) fn has_candidate(table: &Table, state: &State, ways: &Ways) -> bool
     false
 }
 
-// As many zeros.
-fn zeros(alloc: Global, count: usize) -> Result<Vec<usize>, NoMemory>
-    ensures { IfOk result (λ v. length v.items ≡ count) }
-{
-    let mut heights = Vec::with_capacity(alloc, count)?;
-    for _i in 0..count {
-        heights.push(0)?;
-    }
-    Ok(heights)
-}
-
 // Notes the height of a class.
 fn set_height(heights: &mut Vec<usize>, class: usize, height: usize)
     ensures { length heights.new.items ≡ length heights.old.items }
@@ -203,7 +192,7 @@ fn beneath(table: &Table, state: &State, heights: &[usize], i: usize) -> usize
     }
 }
 
-// Raises the class of node i above those of its arguments; answers whether that was to do.
+// Raises the class of node i above those of its arguments; answers whether nodes before i may stand above it.
 fn raise(table: &Table, state: &State, heights: &mut Vec<usize>, i: usize) -> bool
     requires whole { length state.now.names ≡ length table.now.nodes }
     requires within { i < length table.now.nodes }
@@ -219,25 +208,27 @@ fn raise(table: &Table, state: &State, heights: &mut Vec<usize>, i: usize) -> bo
     if high >= table.nodes().len() {
         return false;
     }
-    set_height(heights, state.class_of(i), high + 1);
-    true
+    let class = state.class_of(i);
+    set_height(heights, class, high + 1);
+    class != i
 }
 
-// Raises all classes once; answers whether one was to be raised.
-fn raise_all(table: &Table, state: &State, heights: &mut Vec<usize>) -> bool
+// Raises the classes of the nodes from this one on, once; answers whether nodes before one may stand above its class.
+fn raise_from(table: &Table, state: &State, heights: &mut Vec<usize>, first: usize) -> bool
     requires whole { length state.now.names ≡ length table.now.nodes }
     ensures { length heights.new.items ≡ length heights.old.items }
 {
-    let mut raised = false;
-    for i in 0..table.nodes().len() {
+    let mut turned = false;
+    for i in first..table.nodes().len() {
         if raise(table, state, heights, i) {
-            raised = true;
+            turned = true;
         }
     }
-    raised
+    turned
 }
 
-// Heights of the classes above that of node z.
+// Heights of the classes above that of node z, which names it: a node stands above its arguments' numbers, so what stands
+// above z comes after it, and one turn is enough but for classes that are named by a node before the one that is raised.
 pub(crate) fn heights_above(
     alloc: Global,
     table: &Table,
@@ -248,12 +239,14 @@ pub(crate) fn heights_above(
     ensures { IfOk result (λ v. length v.items ≡ length table.now.nodes) }
 {
     let count = table.nodes().len();
-    let mut heights = zeros(alloc, count)?;
+    let mut heights = vec![in alloc; 0usize; count]?;
     set_height(&mut heights, z, 1);
-    for _round in 0..count {
-        if !raise_all(table, state, &mut heights) {
+    let mut first = z;
+    for _turn in 0..count {
+        if !raise_from(table, state, &mut heights, first) {
             return Ok(heights);
         }
+        first = 0;
     }
     Ok(heights)
 }
