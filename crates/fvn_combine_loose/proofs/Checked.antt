@@ -1,5 +1,5 @@
 -- What is checked of each node makes a class loose.
-use Rattle.std.proofs.Common.{◌≡◌, ◌≢◌, ℕ, zero, suc, ◌<◌, ◌≤◌, Bool, List, [], ◌∷◌, ◌+◌, length, map, get_or, refl, sym, ap, ◌∙◌, subst, inl, inr, arith, All, Option, Some, None, slice_get}
+use Rattle.std.proofs.Common.{◌≡◌, ◌≢◌, ℕ, zero, suc, ◌<◌, ◌≤◌, Bool, List, [], ◌∷◌, ◌+◌, length, map, get_or, refl, sym, ap, ◌∙◌, subst, inl, inr, arith, Option, Some, None}
 use Rattle.std.specs.Prelude.{Any, max}
 use Rattle.std.proofs.lemmas.List.{get_or-map, length-map, same_lists, get_or_default}
 use Rattle.std.proofs.lemmas.Bool.{cases_eq}
@@ -12,7 +12,7 @@ use Rattle.fvn_combine_nodes.specs.States.{class_of}
 use Rattle.fvn_combine_nodes.specs.declared.state.State.{State}
 use Rattle.fvn_combine_nodes.specs.declared.table.Node.TheVariants.{App}
 use Rattle.fvn_combine_nodes.proofs.Nodes.{over_unique}
-use Rattle.fvn_combine_loose.specs.Loose.{height_of, AreMadeAlike, IsHeaded, IsLoose}
+use Rattle.fvn_combine_loose.specs.Loose.{height_of, AreMadeAlike, IsLoose}
 use Rattle.fvn_combine_loose.specs.inner.Checks.{IsHighest, IsRaised, IsNoted, IsBuilt, AreFine}
 
 -- what is not zero
