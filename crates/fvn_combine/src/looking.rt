@@ -22,7 +22,10 @@ use fvn_combine_drawing::{
 };
 use fvn_combine_inferring::{Inferred, Known, differ, infer, known_of, sorted_unifiers_go_with};
 use fvn_combine_leaves::Reading;
-use fvn_combine_loose::{are_parted, loose_classes_part, loose_heights, open_identity};
+use fvn_combine_loose::{
+    are_parted, loose_classes_are_variables, loose_classes_part, loose_heights,
+    more_general_is_a_preorder, open_identity,
+};
 use fvn_combine_nodes::State;
 use fvn_combine_questions::{first_question, question_on_all, question_on_touched};
 use fvn_combine_reading::read;
@@ -74,6 +77,8 @@ fn look_at_leaf(
     sorted_leaves_cover();
     sorted_unifiers_go_with();
     readings_tell();
+    more_general_is_a_preorder();
+    loose_classes_are_variables();
     let leaf = open(task, state, reading, known, bases)?;
     Ok(Looked::Leaf(leaf))
 }
@@ -212,6 +217,7 @@ fn look_at_refused(
         &task.table,
         state,
         &reading,
+        known.heads.as_slice(),
         task.sorted,
     )? {
         Some(bases) => look_at_bases(task, state, reading, known, bases),
@@ -259,6 +265,7 @@ fn turned_bases(
     task: &Task,
     state: &State,
     reading: &Reading,
+    known: &Known,
     effort: &Effort,
 ) -> Result<Option<Vec<Seq<Solution>>>, NoMemory>
     requires near { IsNearLeaf task.now.declarations task.now.table state.now }
@@ -276,6 +283,7 @@ fn turned_bases(
         &task.table,
         state,
         reading,
+        known.heads.as_slice(),
         task.sorted,
     )?;
     Ok(found)
@@ -301,7 +309,7 @@ fn look_at_near_leaf(
     if !are_of_one_kind(task, state) {
         return Ok(Looked::Passed);
     }
-    match turned_bases(task, state, &reading, effort)? {
+    match turned_bases(task, state, &reading, &known, effort)? {
         Some(bases) => look_at_bases(task, state, reading, known, bases),
         None => look_at_systems(task, state, reading, known, effort),
     }
