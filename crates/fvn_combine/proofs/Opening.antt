@@ -1,12 +1,14 @@
 -- A leaf that is opened: all that its state admits is covered by a choice that is to come.
-use Rattle.std.proofs.Common.{◌≡◌, ℕ, ◌<◌, ◌≤◌, List, length, sym, ◌∙◌, subst, inl, inr, arith, All, None}
+use Rattle.std.proofs.Common.{◌≡◌, ℕ, ◌<◌, ◌≤◌, List, length, sym, ◌∙◌, subst, inl, inr, arith, All, Option, None}
 use Rattle.std.specs.List.{AllZip}
 use Rattle.std.proofs.lemmas.Bool.{cases_Bool}
+use Rattle.fvn_terms.specs.declared.plain.OpId.{OpId}
 use Rattle.fvn_terms.specs.Substitution.{Substitution}
+use Rattle.fvn_forms.specs.Flat.{FlatTerm}
 use Rattle.fvn_flat.specs.Solving.{problem_of}
 use Rattle.fvn_lindio.specs.declared.system.Solution.{Solution}
 use Rattle.fvn_combine_nodes.specs.States.{Admits, class_of}
-use Rattle.fvn_combine_nodes.specs.Unifiers.{kernel}
+use Rattle.fvn_combine_nodes.specs.Unifiers.{value_at, kernel}
 use Rattle.fvn_combine_nodes.specs.declared.state.State.{State}
 use Rattle.fvn_combine_systems.specs.Laws.{TablesAreSmall}
 use Rattle.fvn_combine_leaves.specs.Leaves.{IsLeaf}
@@ -17,12 +19,14 @@ use Rattle.fvn_combine_choices.specs.Choosing.{Choice}
 use Rattle.fvn_combine_choices.specs.Plans.{AreOfOneKind}
 use Rattle.fvn_combine_drawing.specs.CombineAdmissibleListed.{systems_of}
 use Rattle.fvn_combine_drawing.specs.CombineCompleteLaws.{ReadingsTell}
+use Rattle.fvn_combine_drawing.specs.CombineCompleteObeying.{ObeyHeads}
 use Rattle.fvn_combine_drawing.specs.CombineBoundsLaws.{SortedLeavesCover}
 use Rattle.fvn_combine_drawing.specs.CombineCandidatesLaws.{BasesMakeSystems, CoveringChoicesAreListed}
 use Rattle.fvn_combine_drawing.specs.CombineCandidatesSharing.{AreSharedClasses}
 use Rattle.fvn_combine_drawing.specs.CombineCandidatesTags.{tag_counts}
 use Rattle.fvn_combine_drawing.specs.CombineCandidatesDeclared.sharing.SharedClass.{SharedClass}
 use Rattle.fvn_combine_inferring.specs.Laws.{SortedUnifiersGoWith}
+use Rattle.fvn_combine_inferring.specs.Sorted.{GoWithSorts}
 use Rattle.fvn_combine_loose.specs.Laws.{AreVariables, LooseClassesAreVariables, MoreGeneralIsAPreorder}
 use Rattle.fvn_combine_inferring.specs.declared.heads.Known.{Known}
 use Rattle.fvn_combine_drawing.specs.CombineTriangularReady.{IsReady}
@@ -43,8 +47,8 @@ module _ (k : Combining) (is : IsCombining k) (s : State) where
       omega (arith, a, b)
 
   -- what is asked of a state that is a leaf of one kind each
-  pub is_ready : IsLeaf k.declarations k.table s → AreOfOneKind k.declarations k.table (class_of s) → IsReady k.declarations k.given k.first k.table s
-  is_ready leaf kinds = record {
+  pub is_ready : (heads : List (Option OpId)) → IsLeaf k.declarations k.table heads s → AreOfOneKind k.declarations k.table (class_of s) → IsReady k.declarations k.given k.first k.table s
+  is_ready heads leaf kinds = record {
     is_given = is.is_given;
     table = is.table_of;
     closed = leaf.closed;
@@ -78,17 +82,23 @@ module _ (k : Combining) (is : IsCombining k) (s : State) where
           }),
         )
 
+  -- values that go with the leaf obey what is known of heads
+  obeyed : (o : Opened) → IsOpened k s o → (values : ℕ → FlatTerm) → GoWithSorts k.declarations k.table s k.sorted values → ObeyHeads k.declarations k.table o.known.heads.items values
+  obeyed o opened values go x f within noted = opened.known.joined x f within noted.noted noted.some values (subst (λ b. GoWithSorts k.declarations k.table s b values) (sym opened.sorted) go)
+
   -- each unifier that is asked for, that the state admits and that has variables in the loose classes is covered by a choice that is to come
   pub covers_admitted : SortedUnifiersGoWith → SortedLeavesCover → ReadingsTell → BasesMakeSystems → (o : Opened) → IsOpened k s o → ((u : Substitution) (c : Choice) → AreVariables k.declarations k.table o.loose u → IsSortedCovering k s o.reading o.bases u c → IsCoveredToCome k s o u) → (u : Substitution) → IsAdmittedBy k s u → AreVariables k.declarations k.table o.loose u → IsCoveredToCome k s o u
   covers_admitted go_with cover tell make o opened all u h variables =
       let told = tell k.declarations k.table s opened.leaf.closed o.reading opened.reading in
       let systems = make k.declarations k.table (class_of s) o.reading opened.reading o.bases opened.bases in
-      let c = cover k.declarations is.good (problem_of k.given) is.is_given.kinds k.table is.well_made is.table_of s opened.leaf told (systems_of o.reading o.bases) systems u h.0.unifies h.1 in
+      let values = values_admitted k is go_with s opened.leaf.closed u h in
+      let heads = obeyed o opened (value_at k.declarations u k.table.nodes) values in
+      let c = cover k.declarations is.good (problem_of k.given) is.is_given.kinds k.table is.well_made is.table_of s o.known.heads.items opened.leaf told (systems_of o.reading o.bases) systems u h.0.unifies h.1 heads in
       all u c.0 variables
       record {
         covering = c.1;
         bounds = λ e. c.2 (h.0.keeps_sorts e);
-        values = values_admitted k is go_with s opened.leaf.closed u h;
+        values = values;
         tagged = c.3;
       }
 

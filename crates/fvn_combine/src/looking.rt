@@ -63,7 +63,7 @@ fn look_at_leaf(
     known: Known,
     bases: Vec<Seq<Solution>>,
 ) -> Result<Looked, NoMemory>
-    requires leaf { IsLeaf task.now.declarations task.now.table state.now }
+    requires leaf { IsLeaf task.now.declarations task.now.table known.heads.items state.now }
     requires kinds { AreOfOneKind task.now.declarations task.now.table (class_of state.now) }
     requires reading { IsReading task.now.declarations task.now.table (class_of state.now) reading }
     requires heads { TellHeads task.now.declarations task.now.table state.now known.sorted
@@ -160,7 +160,14 @@ fn look_at_bases(
     ensures { IfOk result (IsLookedAt task.now state.now) }
 {
     task.recall();
-    match question_on_touched(task.sig, &task.table, state, &reading, bases.as_slice()) {
+    match question_on_touched(
+        task.sig,
+        &task.table,
+        state,
+        &reading,
+        known.heads.as_slice(),
+        bases.as_slice(),
+    ) {
         Some(pair) => asked(task, state, &known, pair.0, pair.1),
         None => look_at_leaf(task, state, reading, known, bases),
     }

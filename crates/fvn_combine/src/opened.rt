@@ -103,7 +103,7 @@ pub(crate) fn open(
 ) -> Result<Opened, NoMemory>
     requires ready { IsReady task.now.declarations task.now.given task.now.first task.now.table
         state.now }
-    requires leaf { IsLeaf task.now.declarations task.now.table state.now }
+    requires leaf { IsLeaf task.now.declarations task.now.table known.heads.items state.now }
     requires reading { IsReading task.now.declarations task.now.table (class_of state.now) reading }
     requires known { TellHeads task.now.declarations task.now.table state.now known.sorted
         known.heads.items }
