@@ -2,7 +2,6 @@
 mod Heads
 mod Identities
 mod Values
-mod Surely
 mod Meeting
 mod Supporting
 mod Telling

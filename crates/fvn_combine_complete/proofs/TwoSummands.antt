@@ -1,5 +1,5 @@
 -- Classes whose values have two summands or more.
-use Rattle.std.proofs.Common.{◌≡◌, ℕ, ◌+◌, ◌≤◌, true, List, [], ◌∷◌, ◌++◌, length, sym, ap, ◌∙◌, subst, inl, inr, arith, Option}
+use Rattle.std.proofs.Common.{◌≡◌, ℕ, ◌≤◌, true, List, [], ◌∷◌, ◌++◌, length, sym, ap, ◌∙◌, subst, inl, inr, arith, Option}
 use Rattle.std.specs.Prelude.{cond}
 use Rattle.std.proofs.lemmas.List.{length-append}
 use Rattle.fvn_terms.specs.declared.plain.OpId.{OpId}
@@ -29,21 +29,9 @@ two_summands d f ts v is settled =
     let n = ap length (ap (parts d f) is ∙ p) in
     omega (arith, two, n)
 
-module _ (d : Declarations) (t : NodeTable) (made : IsWellMade t) (has : HasSums d t) (s : State) (leaf : IsLeaf d t s) (told : IsTold d t (class_of s)) (values : ℕ → FlatTerm) (go_with : GoWith d t s values) (tag : ℕ → Option OpId) (obey : ObeyTags d t (class_of s) tag values) where
+module _ (d : Declarations) (t : NodeTable) (made : IsWellMade t) (has : HasSums d t) (s : State) {heads : List (Option OpId)} (leaf : IsLeaf d t heads s) (told : IsTold d t (class_of s)) (values : ℕ → FlatTerm) (go_with : GoWith d t s values) (tag : ℕ → Option OpId) (obey : ObeyTags d t (class_of s) tag values) where
   abbrev class : ℕ → ℕ
   class = class_of s
-
-  -- what an associative operator heads over two nodes has the summands of both
-  pub summands_of_two : (f : OpId) → IsAssociative (axioms d f) → (i a b : ℕ) → IsOver t.nodes i f (a ∷ b ∷ []) → length (parts d f (values (class i))) ≡ length (parts d f (values (class a))) + length (parts d f (values (class b)))
-  summands_of_two f assoc i a b over =
-      let va = values (class a) in
-      let vb = values (class b) in
-      let is = ap (parts d f) (go_with.are.built i f (a ∷ b ∷ []) over) ∙ parts_build d f assoc va (vb ∷ []) (go_with.are.settled (class a), (go_with.are.settled (class b), tt)) in
-      let l = ap length is in
-      let m = length_sort (all_parts d f (va ∷ vb ∷ [])) in
-      let p = length-append (parts d f va) (parts d f vb ++ []) in
-      let q = length-append (parts d f vb) [] in
-      omega (arith, l, m, p, q)
 
   -- a shared class that is bound to f has two summands, where it has one
   pub shared_two : (f : OpId) (k : ℕ) → IsShared d t class k → IsBound d t class tag f k → 1 ≤ length (parts d f (values k)) → 2 ≤ length (parts d f (values k))
@@ -62,7 +50,15 @@ module _ (d : Declarations) (t : NodeTable) (made : IsWellMade t) (has : HasSums
       over (a ∷ []) o n = absurd (omega (arith, n))
       over (a ∷ b ∷ x ∷ ks) o n = absurd (omega (arith, n))
       over (a ∷ b ∷ []) o n =
-          let sum = ap (λ v. length (parts d f v)) (ap values (sym h.of)) ∙ summands_of_two f assoc h.member a b o in
-          let na = some_part d f h.no_identity (values (class a)) (go_with.are.settled (class a)) in
-          let nb = some_part d f h.no_identity (values (class b)) (go_with.are.settled (class b)) in
-          omega (arith, sum, na, nb)
+          let va = values (class a) in
+          let vb = values (class b) in
+          let sa = go_with.are.settled (class a) in
+          let sb = go_with.are.settled (class b) in
+          let is = ap (parts d f) (ap values (sym h.of) ∙ go_with.are.built h.member f (a ∷ b ∷ []) o) ∙ parts_build d f assoc va (vb ∷ []) (sa, (sb, tt)) in
+          let l = ap length is in
+          let m = length_sort (all_parts d f (va ∷ vb ∷ [])) in
+          let p = length-append (parts d f va) (parts d f vb ++ []) in
+          let q = length-append (parts d f vb) [] in
+          let na = some_part d f h.no_identity va sa in
+          let nb = some_part d f h.no_identity vb sb in
+          omega (arith, l, m, p, q, na, nb)
