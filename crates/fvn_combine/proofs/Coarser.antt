@@ -128,7 +128,7 @@ module _ (partitions : NodePartitionsArePartitions) (systems : NodeSystemsAreSum
       abbrev cause_at : IsBasisCause k.declarations k.given f system
       cause_at = record {
         class = class_at k.table (class_of s);
-        partition = (partitions k.declarations k.given.pairs is.is_given.fit k.table is.well_made is.table_of).of_nodes (class_of s) refused.leaf.leaf.partition;
+        partition = (partitions k.declarations k.given.pairs is.is_given.fit k.table is.well_made is.table_of).of_nodes (class_of s) refused.leaf.near.partition;
         columns = refused.columns;
         is_system = systems k.declarations (problem_of k.given) k.table is.well_made is.table_of (class_of s) f associative refused.columns system refused.is_system;
         refused = refused.refused;

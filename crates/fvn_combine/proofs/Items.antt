@@ -1,5 +1,5 @@
 -- Lists, item by item.
-use Rattle.std.proofs.Common.{◌≡◌, ◌≢◌, ℕ, ◌+◌, ◌<◌, ◌≤◌, List, length, take, get_or, sym, ap, ◌∙◌, subst, inl, inr, arith, All, AllPairs, Contains, Some}
+use Rattle.std.proofs.Common.{◌≡◌, ◌≢◌, ℕ, ◌+◌, ◌<◌, ◌≤◌, List, length, take, get_or, sym, ap, ◌∙◌, subst, inl, inr, arith, All, AllPairs, Any, Contains, Some}
 use Rattle.std.specs.Prelude.{◌⊎◌, slice_get}
 use Rattle.std.proofs.lemmas.Bool.{cases_order}
 use Rattle.std.proofs.lemmas.List.{get_or_default, get_or-take, length-take-le}
@@ -34,3 +34,9 @@ taken_at xs n x l c =
     let m = length-take-le n xs l in
     let within : c.0 < n = let w = c.1 in omega (arith, w, m) in
     (c.0, within, slice_get-get_or xs c.0 x (omega (arith, within, l)) ∙ ap Some (sym (get_or-take n xs c.0 x within) ∙ c.2))
+
+-- what holds at a place holds of some item up to there
+pub any_taken : {A : Type 0} (P : A → Type 0) (xs : List A) (i : ℕ) (x : A) → i < length xs → x ≡ get_or xs i x → P x → Any P (take (i + 1) xs)
+any_taken P xs i x l is p =
+    let m = length-take-le (i + 1) xs (omega (arith, l)) in
+    (i, x, omega (arith, m), get_or-take (i + 1) xs i x (omega arith) ∙ sym is, p)

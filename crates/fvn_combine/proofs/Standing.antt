@@ -8,7 +8,7 @@ use Rattle.fvn_combine_nodes.specs.States.{Admits, IsClosed, IsOpen}
 use Rattle.fvn_combine_nodes.specs.Unifiers.{kernel}
 use Rattle.fvn_combine_nodes.specs.declared.state.State.{State}
 use Rattle.fvn_combine_loose.specs.Loose.{ArePartedOpen}
-use Rattle.fvn_combine_loose.specs.Laws.{LooseClassesPart, MoreGeneralIsAPreorder}
+use Rattle.fvn_combine_loose.specs.Laws.{IsLoosened, LooseClassesPart, MoreGeneralIsAPreorder}
 use Rattle.fvn_combine.specs.Tasks.{Combining, IsCombining, IsWanted, StandsFor, HoldsFor}
 use Rattle.fvn_combine.specs.inner.Found.{IsAdmittedBy, MayPart}
 
@@ -28,21 +28,20 @@ module _ (k : Combining) (is : IsCombining k) where
       own = λ e. b.own e ∙ a.own e;
     }
 
+  -- what is loosened from a unifier stands for it, where more general ones are enough
+  pub loosened_stands : k.general ≡ true → (s : State) (u v : Substitution) → IsWanted k u → IsLoosened k.declarations (problem_of k.given) k.table s u v → StandsFor k u v
+  loosened_stands enough s u v wanted loosened = record {
+    wanted = record { unifies = loosened.unifies; keeps_sorts = λ e. loosened.more_general.sorts (wanted.keeps_sorts e) };
+    more_general = loosened.more_general;
+    own = λ e. absurd (false≢true (sym e ∙ enough));
+  }
+
   -- nodes that a loose class parts are in two classes under a unifier that stands for the other
   pub parted_admitted : LooseClassesPart → (s : State) → IsClosed k.declarations k.table s → (i j : ℕ) → MayPart k s i j → (u : Substitution) → IsAdmittedBy k s u
       → HoldsFor k (λ v. Admits s (kernel k.declarations v k.table.nodes) × (kernel k.declarations v k.table.nodes i ≢ kernel k.declarations v k.table.nodes j)) u
   parted_admitted law s closed i j may u h =
       let p = law k.declarations is.good (problem_of k.given) is.is_given.kinds k.table is.well_made is.table_of s closed i j may.parted u h.0.unifies h.1 in
-      let v = p.0 in
-      let loosened = p.1 in (
-        v,
-        record {
-          wanted = record { unifies = loosened.unifies; keeps_sorts = λ e. loosened.more_general.sorts (h.0.keeps_sorts e) };
-          more_general = loosened.more_general;
-          own = λ e. absurd (false≢true (sym e ∙ may.enough));
-        },
-        (loosened.admits, p.2),
-      )
+      (p.0, loosened_stands may.enough s u p.0 h.0 p.1, (p.1.admits, p.2))
 
 -- what a loose class parts may be parted where more general unifiers are enough
 pub may_part_open : (k : Combining) → k.general ≡ true → (s : State) (o : Option (ℕ × ℕ)) → IfSome o (ArePartedOpen k.declarations k.table s) → IfSome o (λ p. MayPart k s p.0 p.1 × IsOpen s p.0 p.1)

@@ -1,5 +1,5 @@
 -- The tags that options stand for.
-use Rattle.std.proofs.Common.{◌≡◌, ◌≢◌, ℕ, zero, suc, ◌<◌, ◌≤◌, List, [], ◌∷◌, length, get_or, refl, sym, ap, ◌∙◌, inl, inr, arith, All, AllPairs, Option, Some, None}
+use Rattle.std.proofs.Common.{◌≡◌, ◌≢◌, ℕ, zero, suc, ◌<◌, ◌≤◌, List, [], ◌∷◌, length, get_or, refl, sym, ap, ◌∙◌, inl, inr, arith, All, AllPairs, Contains, Option, Some, None}
 use Rattle.std.specs.Prelude.{◌⊎◌, if◌then◌else◌, slice_get}
 use Rattle.std.proofs.lemmas.Bool.{eq-eqb, ne_eqb, cases_order}
 use Rattle.std.proofs.lemmas.List.{get_or-map, length-map, get_or_past}
@@ -25,6 +25,15 @@ tag_at (a ∷ shared) (n ∷ numbers) distinct many (suc i) c at =
     let other : a.class ≢ c.class = λ e. distinct 0 (suc i) 0 (omega arith) (omega (arith, l, m)) (e ∙ sym class_is) in
     ap (λ b. if b then user_at a.users n else tag_by shared numbers c.class) (ne_eqb a.class c.class other)
     ∙ tag_at shared numbers (λ x y d p q. distinct (suc x) (suc y) d (omega (arith, p)) (omega (arith, q))) (omega (arith, many)) i c at
+
+-- a tag is one of the users
+pub some_user : (users : List OpId) (n : ℕ) → user_at users n ≢ None → (f : OpId) × Contains users f × (user_at users n ≡ Some f)
+some_user users zero some = absurd (some refl)
+some_user users (suc i) some = go (slice_get users i) refl
+  where
+    go : (o : Option OpId) → slice_get users i ≡ o → (f : OpId) × Contains users f × (slice_get users i ≡ Some f)
+    go None e = absurd (some e)
+    go (Some f) e = (f, (i, slice_get_within users i f e, get_or_from_slice_get users i f f e), e)
 
 -- no class past the last one has a tag
 none_past : (n : ℕ) (shared : List SharedClass) (numbers : List ℕ) → All (λ c. c.class < n) shared → (x : ℕ) → n ≤ x → tag_by shared numbers x ≡ None

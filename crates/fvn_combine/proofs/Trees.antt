@@ -177,18 +177,26 @@ module _ (k : Combining) (before after : List State) (o : Opened) (l : IsLookedA
   pub leaf_opened : IsOpenedAt k (Some (record { state = s; opened = o }))
   leaf_opened = subst (λ x. IsOpened k x o) same l.looked.0
 
+  -- of each unifier that the leaf's state admits one that stands for it is to come at the leaf
+  at_leaf : (v : Substitution) → IsWanted k v → Admits s (kernel k.declarations v k.table.nodes) → HoldsFor k (λ w. Admits s (kernel k.declarations w k.table.nodes) × IsCoveredToCome k s o w) v
+  at_leaf v wanted a = subst (λ x. IsAdmittedBy k x v → HoldsFor k (λ w. Admits x (kernel k.declarations w k.table.nodes) × IsCoveredToCome k x o w) v) same (l.looked.1 v) (wanted, a)
+
+  -- no more is left than the states admitted
+  was_left : (v : Substitution) → IsLeft k after (Some (record { state = s; opened = o })) v → IsAdmitted k before v
+  was_left v h = subst (λ x. IsAdmitted k x v) (sym e) (elim h [
+    | inl b ↦ admitted_left k v after (s ∷ []) b
+    | inr c ↦ admitted_last k v after s c.0
+  ])
+
   -- the last state is a leaf, which is opened
-  pub after_opening : (u : Substitution) → IsWanted k u → IsAdmitted k before u ↔ IsLeft k after (Some (record { state = s; opened = o })) u
-  after_opening u wanted = (
-    λ h. elim (admitted_cases k u after (s ∷ []) (subst (λ x. IsAdmitted k x u) e h)) [
-      | inl b ↦ inl b
-      | inr t ↦ inr (at_leaf (admitted_one k u s t))
-    ],
-    λ h. elim h [
-      | inl b ↦ subst (λ x. IsAdmitted k x u) (sym e) (admitted_left k u after (s ∷ []) b)
-      | inr c ↦ subst (λ x. IsAdmitted k x u) (sym e) (admitted_last k u after s c.0)
-    ],
+  pub after_opening : IsCombining k → MoreGeneralIsAPreorder → (u : Substitution) → IsWanted k u → HoldsFor k (IsAdmitted k before) u ↔ HoldsFor k (IsLeft k after (Some (record { state = s; opened = o }))) u
+  after_opening is preorder u wanted = (
+    λ h. let v = h.0 in
+        let stands = h.1 in
+        elim (admitted_cases k v after (s ∷ []) (subst (λ x. IsAdmitted k x v) e h.2)) [
+          | inl b ↦ (v, stands, inl b)
+          | inr t ↦ let other = at_leaf v stands.wanted (admitted_one k v s t) in
+              (other.0, stands_after k is preorder u v other.0 stands other.1, inr other.2)
+        ],
+    λ h. (h.0, h.1, was_left h.0 h.2),
   )
-    where
-      at_leaf : Admits s (kernel k.declarations u k.table.nodes) → Admits s (kernel k.declarations u k.table.nodes) × IsCoveredToCome k s o u
-      at_leaf a = (a, subst (λ x. IsAdmittedBy k x u → IsCoveredToCome k x o u) same (l.looked.1 u) (wanted, a))

@@ -5,6 +5,7 @@ use Rattle.fvn_terms.specs.Substitution.{Substitution}
 use Rattle.fvn_combine_nodes.specs.declared.state.State.{State}
 use Rattle.fvn_combine_drawing.specs.declared.drawing.Drawn.{Drawn}
 use Rattle.fvn_combine_drawing.specs.declared.drawing.Drawn.TheVariants.{Nothing, TooLarge, Unifier}
+use Rattle.fvn_combine_loose.specs.Laws.{AreVariables}
 use Rattle.fvn_combine.specs.Tasks.{Combining}
 use Rattle.fvn_combine.specs.Leaves.{IsCoveredNow, IsCoveredLater, IsCoveredToCome}
 use Rattle.fvn_combine.specs.declared.opened.Turning.{Turning}
@@ -13,7 +14,7 @@ use Rattle.fvn_combine.specs.inner.Found.{IsDrawnFrom, IsSameButCurrent}
 
 module _ (k : Combining) (s : State) where
   -- what is to come later does not rest on the current tags
-  later_under : (o : Opened) (current : Option Turning) (u : Substitution) → IsCoveredLater k s o u → IsCoveredLater k s (record { reading = o.reading; known = o.known; bases = o.bases; shared = o.shared; tags = o.tags; turning = current }) u
+  later_under : (o : Opened) (current : Option Turning) (u : Substitution) → IsCoveredLater k s o u → IsCoveredLater k s (record { reading = o.reading; known = o.known; bases = o.bases; shared = o.shared; tags = o.tags; loose = o.loose; turning = current }) u
   later_under o current u h = record {
     options = h.options;
     pending = h.pending;
@@ -25,32 +26,50 @@ module _ (k : Combining) (s : State) where
   module _ (before after : Opened) (same : IsSameButCurrent before after) where
     pub later_kept : (u : Substitution) → IsCoveredLater k s before u → IsCoveredLater k s after u
     later_kept u h = subst (λ o. IsCoveredLater k s o u)
-        (λ i. record { reading = (sym same.reading) i; known = (sym same.known) i; bases = (sym same.bases) i; shared = (sym same.shared) i; tags = (sym same.tags) i; turning = after.turning })
+        (λ i. record { reading = (sym same.reading) i; known = (sym same.known) i; bases = (sym same.bases) i; shared = (sym same.shared) i; tags = (sym same.tags) i; loose = (sym same.loose) i; turning = after.turning })
         (later_under before after.turning u h)
 
     pub later_was : (u : Substitution) → IsCoveredLater k s after u → IsCoveredLater k s before u
     later_was u h = subst (λ o. IsCoveredLater k s o u)
-        (λ i. record { reading = same.reading i; known = same.known i; bases = same.bases i; shared = same.shared i; tags = same.tags i; turning = before.turning })
+        (λ i. record { reading = same.reading i; known = same.known i; bases = same.bases i; shared = same.shared i; tags = same.tags i; loose = same.loose i; turning = before.turning })
         (later_under after before.turning u h)
 
+    -- loose classes have variables before and after
+    pub variables_kept : (u : Substitution) → IsCoveredToCome k s before u → AreVariables k.declarations k.table after.loose u
+    variables_kept u h = subst (λ l. AreVariables k.declarations k.table l u) (sym same.loose) h.0
+
     pub to_come_was : ((u : Substitution) → IsCoveredNow k s after u → IsCoveredNow k s before u) → (u : Substitution) → IsCoveredToCome k s after u → IsCoveredToCome k s before u
-    to_come_was fewer u (inl n) = inl (fewer u n)
-    to_come_was fewer u (inr l) = inr (later_was u l)
+    to_come_was fewer u h = (
+      subst (λ l. AreVariables k.declarations k.table l u) same.loose h.0,
+      elim h.1 [
+        | inl n ↦ inl (fewer u n)
+        | inr l ↦ inr (later_was u l)
+      ],
+    )
 
     pub to_come_kept : ((u : Substitution) → IsCoveredNow k s before u → IsCoveredNow k s after u) → (u : Substitution) → IsCoveredToCome k s before u → IsCoveredToCome k s after u
-    to_come_kept kept u (inl n) = inl (kept u n)
-    to_come_kept kept u (inr l) = inr (later_kept u l)
+    to_come_kept kept u h = (
+      variables_kept u h,
+      elim h.1 [
+        | inl n ↦ inl (kept u n)
+        | inr l ↦ inr (later_kept u l)
+      ],
+    )
 
     pub to_come_or : (Q : Substitution → Type 0) → ((u : Substitution) → IsCoveredNow k s before u → Q u ⊎ IsCoveredNow k s after u) → (u : Substitution) → IsCoveredToCome k s before u → Q u ⊎ IsCoveredToCome k s after u
-    to_come_or Q given u (inl n) = elim (given u n) [
-      | inl q ↦ inl q
-      | inr m ↦ inr (inl m)
+    to_come_or Q given u h = elim h.1 [
+      | inl n ↦ elim (given u n) [
+        | inl q ↦ inl q
+        | inr m ↦ inr (variables_kept u h, inl m)
+      ]
+      | inr l ↦ inr (variables_kept u h, inr (later_kept u l))
     ]
-    to_come_or Q given u (inr l) = inr (inr (later_kept u l))
 
     pub later_alone : ((u : Substitution) → IsCoveredNow k s before u → ⊥) → (u : Substitution) → IsCoveredToCome k s before u → IsCoveredLater k s after u
-    later_alone none u (inl n) = absurd (none u n)
-    later_alone none u (inr l) = later_kept u l
+    later_alone none u h = elim h.1 [
+      | inl n ↦ absurd (none u n)
+      | inr l ↦ later_kept u l
+    ]
 
 -- what holds beside is kept
 pub drawn_beside : (k : Combining) (Before After Beside : Substitution → Type 0) (r : Drawn) → IsDrawnFrom k Before After r → IsDrawnFrom k (λ u. Beside u × Before u) (λ u. Beside u × After u) r

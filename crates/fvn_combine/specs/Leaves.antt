@@ -81,7 +81,7 @@ module _ (k : Combining) (s : State) where
   -- tags, and loose classes, where more general unifiers are enough
   pub record IsOpened (o : Opened) : Type 0 where
     pub ready : IsReady k.declarations k.given k.first k.table s
-    pub leaf : IsLeaf k.declarations k.table s
+    pub leaf : IsLeaf k.declarations k.table o.known.heads.items s
     pub reading : IsReading k.declarations k.table (class_of s) o.reading
     pub known : TellHeads k.declarations k.table s o.known.sorted o.known.heads.items
     pub sorted : o.known.sorted ≡ k.sorted

@@ -1,14 +1,12 @@
 //! Tags that go against what is known of the values of classes.
 ghost use Rattle.std.specs.Prelude.{◌≡◌, ◌<◌, length, All, Any, Contains, IsTrue, IfSome};
 ghost use Rattle.fvn_combine_leaves.specs.Users.{IsWhole};
-ghost use Rattle.fvn_combine.specs.inner.Against.{IsAgainst, IsAgainstUpTo, IsAgainstAt};
+ghost use Rattle.fvn_combine.specs.inner.Against.{IsAgainst, IsLooseAgainst, IsAgainstUpTo, IsAgainstAt};
 
 use crate::homes::{is_other, leave_homeless};
-use fvn_base::Seq;
+use crate::opened::Opened;
 use fvn_combine_drawing::SharedClass;
-use fvn_combine_leaves::Reading;
 use fvn_combine_nodes::has_no_identity;
-use fvn_lindio::Solution;
 use fvn_signature::Signature;
 use fvn_terms::OpId;
 
@@ -71,44 +69,59 @@ fn go_against(
 // Whether some tag of these shared classes goes against what is known of its class, or they leave one without a home.
 fn are_against(
     sig: &Signature,
-    heads: &[Option<OpId>],
-    reading: &Reading,
-    bases: &[Seq<Solution>],
+    opened: &Opened,
     decided: &[SharedClass],
     tags: &[Option<OpId>],
 ) -> bool
-    requires heads { All (λ c. c.class < length heads.now) decided.now }
+    requires heads { All (λ c. c.class < length opened.now.known.heads.items) decided.now }
     requires tags { All (λ c. c.class < length tags.now) decided.now }
-    requires whole { IsWhole (length reading.now.heads) reading.now }
-    requires bases { length bases.now ≡ length reading.now.sums }
-    ensures { IsTrue result →
-        IsAgainstUpTo sig.now heads.now reading.now bases.now decided.now tags.now }
+    requires whole { IsWhole (length opened.now.reading.heads) opened.now.reading }
+    requires bases { length opened.now.bases ≡ length opened.now.reading.sums }
+    ensures { IsTrue result → IsAgainstUpTo sig.now opened.now decided.now tags.now }
 {
-    if go_against(sig, decided, heads, tags) {
+    if go_against(sig, decided, opened.known.heads.as_slice(), tags) {
         return true;
     }
-    leave_homeless(decided, tags, reading, bases)
+    leave_homeless(decided, tags, &opened.reading, opened.bases.as_slice())
+}
+
+// Whether the class is one of the list.
+fn is_loose(loose: &[usize], class: usize) -> bool
+    ensures { IsTrue result → Contains loose.now class }
+{
+    loose.contains(&class)
+}
+
+// Whether the class is one of those that are known to be loose, and has a tag.
+fn is_loose_against(entry: &SharedClass, loose: &[usize], tags: &[Option<OpId>]) -> bool
+    requires { entry.now.class < length tags.now }
+    ensures { IsTrue result → IsLooseAgainst loose.now tags.now entry.now }
+{
+    match tags[entry.class] {
+        None => false,
+        Some(_) => is_loose(loose, entry.class),
+    }
 }
 
 /// The first place at which the tags of the shared classes up to it go against what is known, whatever the tags of the
 /// later ones.
 pub(crate) fn first_against(
     sig: &Signature,
-    heads: &[Option<OpId>],
-    reading: &Reading,
-    bases: &[Seq<Solution>],
-    shared: &[SharedClass],
+    opened: &Opened,
     tags: &[Option<OpId>],
 ) -> Option<usize>
-    requires heads { All (λ c. c.class < length heads.now) shared.now }
-    requires tags { All (λ c. c.class < length tags.now) shared.now }
-    requires whole { IsWhole (length reading.now.heads) reading.now }
-    requires bases { length bases.now ≡ length reading.now.sums }
-    ensures { IfSome result
-        (IsAgainstAt sig.now heads.now reading.now bases.now shared.now tags.now) }
+    requires heads { All (λ c. c.class < length opened.now.known.heads.items) opened.now.shared }
+    requires tags { All (λ c. c.class < length tags.now) opened.now.shared }
+    requires whole { IsWhole (length opened.now.reading.heads) opened.now.reading }
+    requires bases { length opened.now.bases ≡ length opened.now.reading.sums }
+    ensures { IfSome result (IsAgainstAt sig.now opened.now tags.now) }
 {
+    let shared = opened.shared.as_slice();
     for place in 0..shared.len() {
-        if are_against(sig, heads, reading, bases, &shared[..place + 1], tags) {
+        if is_loose_against(&shared[place], opened.loose.as_slice(), tags) {
+            return Some(place);
+        }
+        if are_against(sig, opened, &shared[..place + 1], tags) {
             return Some(place);
         }
     }

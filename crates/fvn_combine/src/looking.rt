@@ -22,7 +22,10 @@ use fvn_combine_drawing::{
 };
 use fvn_combine_inferring::{Inferred, Known, differ, infer, known_of, sorted_unifiers_go_with};
 use fvn_combine_leaves::Reading;
-use fvn_combine_loose::{are_parted, loose_classes_part, loose_heights, open_identity};
+use fvn_combine_loose::{
+    are_parted, loose_classes_are_variables, loose_classes_part, loose_heights,
+    more_general_is_a_preorder, open_identity,
+};
 use fvn_combine_nodes::State;
 use fvn_combine_questions::{first_question, question_on_all, question_on_touched};
 use fvn_combine_reading::read;
@@ -60,7 +63,7 @@ fn look_at_leaf(
     known: Known,
     bases: Vec<Seq<Solution>>,
 ) -> Result<Looked, NoMemory>
-    requires leaf { IsLeaf task.now.declarations task.now.table state.now }
+    requires leaf { IsLeaf task.now.declarations task.now.table known.heads.items state.now }
     requires kinds { AreOfOneKind task.now.declarations task.now.table (class_of state.now) }
     requires reading { IsReading task.now.declarations task.now.table (class_of state.now) reading }
     requires heads { TellHeads task.now.declarations task.now.table state.now known.sorted
@@ -74,6 +77,8 @@ fn look_at_leaf(
     sorted_leaves_cover();
     sorted_unifiers_go_with();
     readings_tell();
+    more_general_is_a_preorder();
+    loose_classes_are_variables();
     let leaf = open(task, state, reading, known, bases)?;
     Ok(Looked::Leaf(leaf))
 }
@@ -155,7 +160,14 @@ fn look_at_bases(
     ensures { IfOk result (IsLookedAt task.now state.now) }
 {
     task.recall();
-    match question_on_touched(task.sig, &task.table, state, &reading, bases.as_slice()) {
+    match question_on_touched(
+        task.sig,
+        &task.table,
+        state,
+        &reading,
+        known.heads.as_slice(),
+        bases.as_slice(),
+    ) {
         Some(pair) => asked(task, state, &known, pair.0, pair.1),
         None => look_at_leaf(task, state, reading, known, bases),
     }
@@ -212,6 +224,7 @@ fn look_at_refused(
         &task.table,
         state,
         &reading,
+        known.heads.as_slice(),
         task.sorted,
     )? {
         Some(bases) => look_at_bases(task, state, reading, known, bases),
@@ -259,6 +272,7 @@ fn turned_bases(
     task: &Task,
     state: &State,
     reading: &Reading,
+    known: &Known,
     effort: &Effort,
 ) -> Result<Option<Vec<Seq<Solution>>>, NoMemory>
     requires near { IsNearLeaf task.now.declarations task.now.table state.now }
@@ -276,6 +290,7 @@ fn turned_bases(
         &task.table,
         state,
         reading,
+        known.heads.as_slice(),
         task.sorted,
     )?;
     Ok(found)
@@ -301,7 +316,7 @@ fn look_at_near_leaf(
     if !are_of_one_kind(task, state) {
         return Ok(Looked::Passed);
     }
-    match turned_bases(task, state, &reading, effort)? {
+    match turned_bases(task, state, &reading, &known, effort)? {
         Some(bases) => look_at_bases(task, state, reading, known, bases),
         None => look_at_systems(task, state, reading, known, effort),
     }

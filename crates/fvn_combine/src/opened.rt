@@ -1,12 +1,14 @@
 //! Leaves that are open.
-ghost use Rattle.std.specs.Prelude.{◌≡◌, ◌*◌, ◌≤◌, IfOk};
+ghost use Rattle.std.specs.Prelude.{◌≡◌, ◌*◌, ◌≤◌, false, [], All, IfOk};
 ghost use Rattle.fvn_terms.specs.Substitution.{Substitution};
-ghost use Rattle.fvn_combine_nodes.specs.States.{class_of};
+ghost use Rattle.fvn_combine_nodes.specs.States.{IsClosed, class_of};
 ghost use Rattle.fvn_combine_leaves.specs.Leaves.{IsLeaf};
 ghost use Rattle.fvn_combine_leaves.specs.Readings.{IsReading};
 ghost use Rattle.fvn_combine_choices.specs.Choosing.{Choice as InChoice};
 ghost use Rattle.fvn_combine_leaves.specs.Bases.{AreBases};
 ghost use Rattle.fvn_combine_inferring.specs.Inferred.{TellHeads};
+ghost use Rattle.fvn_combine_loose.specs.Loose.{IsLooseClass};
+ghost use Rattle.fvn_combine_loose.specs.Laws.{AreVariables};
 ghost use Rattle.fvn_combine_drawing.specs.CombineTriangularReady.{IsReady};
 ghost use Rattle.fvn_combine.specs.Leaves.{IsSortedCovering, IsOpened, IsCoveredToCome};
 ghost use Rattle.fvn_combine.specs.Work.{most_tags, most_numbers, leaf_left};
@@ -19,6 +21,7 @@ use fvn_combine_drawing::{
 };
 use fvn_combine_inferring::Known;
 use fvn_combine_leaves::Reading;
+use fvn_combine_loose::loose_classes;
 use fvn_combine_nodes::State;
 use fvn_combine_systems::tables_are_small;
 use fvn_lindio::Solution;
@@ -43,6 +46,7 @@ pub(crate) struct Opened {
     pub(crate) bases: Seq<Seq<Solution>>,
     pub(crate) shared: Seq<SharedClass>,
     pub(crate) tags: Tags,
+    pub(crate) loose: Seq<usize>,
     pub(crate) turning: Option<Turning>,
 }
 
@@ -54,6 +58,7 @@ impl Drop for Opened {
             bases: _,
             shared: _,
             tags: _,
+            loose: _,
             turning: _,
         } = self;
     }
@@ -74,6 +79,20 @@ impl Drop for Leaf {
     }
 }
 
+// Loose classes of a state, where more general unifiers are enough.
+fn loose_of(task: &Task, state: &State) -> Result<Vec<usize>, NoMemory>
+    requires closed { IsClosed task.now.declarations task.now.table state.now }
+    ensures loose { IfOk result (λ all.
+        All (IsLooseClass task.now.declarations task.now.table state.now) all.items) }
+    ensures none { IfOk result (λ all. task.now.general ≡ false → all.items ≡ []) }
+{
+    if !task.general {
+        return Ok(Vec::new(task.alloc));
+    }
+    let loose = loose_classes(task.alloc, task.sig, &task.table, state)?;
+    Ok(loose)
+}
+
 // Opens a leaf, all of whose choices are to come.
 pub(crate) fn open(
     task: &Task,
@@ -84,7 +103,7 @@ pub(crate) fn open(
 ) -> Result<Opened, NoMemory>
     requires ready { IsReady task.now.declarations task.now.given task.now.first task.now.table
         state.now }
-    requires leaf { IsLeaf task.now.declarations task.now.table state.now }
+    requires leaf { IsLeaf task.now.declarations task.now.table known.heads.items state.now }
     requires reading { IsReading task.now.declarations task.now.table (class_of state.now) reading }
     requires known { TellHeads task.now.declarations task.now.table state.now known.sorted
         known.heads.items }
@@ -92,6 +111,7 @@ pub(crate) fn open(
     requires bases { AreBases reading.sums bases.items }
     ensures opened { IfOk result (IsOpened task.now state.now) }
     ensures all { IfOk result (λ o. (u : Substitution) (c : InChoice)
+        → AreVariables task.now.declarations task.now.table o.loose u
         → IsSortedCovering task.now state.now o.reading o.bases u c
         → IsCoveredToCome task.now state.now o u) }
     ensures few { IfOk result (λ o.
@@ -101,6 +121,7 @@ pub(crate) fn open(
     sum_operators_are_few();
     covering_choices_are_listed();
     tables_are_small();
+    let loose = loose_of(task, state)?;
     let classes = shared(
         task.alloc,
         task.sig,
@@ -117,6 +138,7 @@ pub(crate) fn open(
         bases: Seq::from_vec(bases),
         shared: Seq::from_vec(classes),
         tags,
+        loose: Seq::from_vec(loose),
         turning: None,
     })
 }

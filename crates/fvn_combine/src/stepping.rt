@@ -172,7 +172,8 @@ fn open_last(task: &Task, tree: &mut Tree, leaf: &mut Option<Leaf>, opened: Open
     ensures ordered { AreInOrder tree.new }
     ensures stepped { IsStep task.now tree.old leaf.old tree.new leaf.new result }
 {
-    let _task = task;
+    task.recall();
+    more_general_is_a_preorder();
     match tree.take_top() {
         None => Step::Over,
         Some(state) => {

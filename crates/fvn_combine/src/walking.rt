@@ -143,14 +143,7 @@ fn turn(task: &Task, state: &State, opened: &mut Opened) -> Result<bool, NoMemor
         opened.shared.as_slice(),
         options,
     )?;
-    match first_against(
-        task.sig,
-        opened.known.heads.as_slice(),
-        &opened.reading,
-        opened.bases.as_slice(),
-        opened.shared.as_slice(),
-        tags.as_slice(),
-    ) {
+    match first_against(task.sig, opened, tags.as_slice()) {
         None => {}
         Some(place) => {
             opened.tags.skip(place);

@@ -3,11 +3,10 @@ use Rattle.std.specs.Prelude.{◌≡◌, ◌≢◌, ◌⊎◌, ℕ, ◌+◌, ◌
 use Rattle.fvn_terms.specs.declared.plain.OpId.{OpId}
 use Rattle.fvn_terms.specs.declared.declarations.Declarations.{Declarations}
 use Rattle.fvn_terms.specs.Signature.{axioms}
-use Rattle.fvn_lindio.specs.declared.system.Solution.{Solution}
 use Rattle.fvn_flat.specs.Partitions.{HasNoIdentity}
-use Rattle.fvn_combine_leaves.specs.declared.reading.Reading.{Reading}
 use Rattle.fvn_combine_drawing.specs.CombineAdmissibleListed.{tag_in}
 use Rattle.fvn_combine_drawing.specs.CombineCandidatesDeclared.sharing.SharedClass.{SharedClass}
+use Rattle.fvn_combine.specs.declared.opened.Opened.{Opened}
 use Rattle.fvn_combine.specs.inner.Homes.{LeaveHomeless}
 
 -- an operator with an identity that uses the class is noted as what heads its value, and is not its tag
@@ -23,12 +22,14 @@ pub record IsLooseAgainst (loose : List ℕ) (tags : List (Option OpId)) (c : Sh
   pub loose_class : Contains loose c.class
   pub tagged : tag_in tags c.class ≢ None
 
-module _ (d : Declarations) (heads : List (Option OpId)) (loose : List ℕ) (r : Reading) (bases : List (List Solution)) where
+-- Tags at an open leaf.
+module _ (d : Declarations) (o : Opened) where
   -- so it is with one of the shared classes whose tags are decided, or one that is loose has a tag, or these tags leave one without a home
   abbrev pub IsAgainstUpTo : List SharedClass → List (Option OpId) → Type 0
-  IsAgainstUpTo decided tags = Any (IsAgainst d heads tags) decided ⊎ Any (IsLooseAgainst loose tags) decided ⊎ LeaveHomeless decided tags r bases
+  IsAgainstUpTo decided tags =
+      Any (IsAgainst d o.known.heads.items tags) decided ⊎ Any (IsLooseAgainst o.loose tags) decided ⊎ LeaveHomeless decided tags o.reading o.bases
 
   -- so it is with those up to the place
-  pub record IsAgainstAt (shared : List SharedClass) (tags : List (Option OpId)) (place : ℕ) : Type 0 where
-    pub within : place < length shared
-    pub against : IsAgainstUpTo (take (place + 1) shared) tags
+  pub record IsAgainstAt (tags : List (Option OpId)) (place : ℕ) : Type 0 where
+    pub within : place < length o.shared
+    pub against : IsAgainstUpTo (take (place + 1) o.shared) tags

@@ -7,6 +7,8 @@ use Rattle.fvn_acunify_product.specs.Tags.{tags_left}
 use Rattle.fvn_combine_drawing.specs.CombineCandidatesSharing.{AreSharedClasses}
 use Rattle.fvn_combine_drawing.specs.CombineCandidatesTags.{tag_counts}
 use Rattle.fvn_combine_drawing.specs.CombineCandidatesDeclared.sharing.SharedClass.{SharedClass}
+use Rattle.fvn_combine_leaves.specs.Bases.{AreBases}
+use Rattle.fvn_combine_loose.specs.Loose.{IsLooseClass}
 use Rattle.fvn_combine.specs.Tasks.{Combining}
 use Rattle.fvn_combine.specs.Work.{most_tags, most_numbers}
 use Rattle.fvn_combine_leaves.specs.Readings.{IsReading}
@@ -20,12 +22,34 @@ option_counts-requires c = record {
       (few_users c.args.task.now c.recall.ensures c.args.state.now c.tables_are_small.ensures c.args.reading c.requires.reading c.in_ok-classes.classes.items c.in_ok-classes.ensures.few);
 }
 
+pub loose_of-requires : goal.loose_of-requires
+loose_of-requires c = record { closed = c.requires.ready.closed }
+
+pub returns-clause-opened : goal.returns-clause-opened
+returns-clause-opened c =
+    let k = c.args.task.now in
+    let s = c.args.state.now in
+    let exact = subst (λ (k : Combining). AreSharedClasses k.declarations k.table (class_of s) k.sorted c.in_ok-classes.classes.items) c.task.view_is c.in_ok-classes.ensures.exact in
+    record {
+      ready = c.requires.ready;
+      leaf = c.requires.leaf;
+      reading = c.requires.reading;
+      known = c.requires.known;
+      sorted = c.requires.sorted;
+      bases = subst (AreBases c.args.reading.sums) (sym c.from_vec.ensures) c.requires.bases;
+      shared = subst (AreSharedClasses k.declarations k.table (class_of s) k.sorted) (sym c.from_vec-2.ensures) exact;
+      counts = c.in_ok-tags.ensures.counts ∙ c.in_ok-counts.ensures ∙ ap tag_counts (c.as_slice.ensures.value ∙ sym c.from_vec-2.ensures);
+      turning = λ v e. cc;
+      loose = subst (All (IsLooseClass k.declarations k.table s)) (sym c.from_vec-3.ensures) c.in_ok-loose.ensures.loose;
+      none_loose = λ e. c.from_vec-3.ensures ∙ c.in_ok-loose.ensures.none e;
+    }
+
 pub returns-clause-all : goal.returns-clause-all
 returns-clause-all c =
     let classes = c.in_ok-classes.classes.items in
     let exact = subst (λ (k : Combining). AreSharedClasses k.declarations k.table (class_of c.args.state.now) k.sorted classes) c.task.view_is c.in_ok-classes.ensures.exact in
     let counts = c.in_ok-tags.ensures.counts ∙ c.in_ok-counts.ensures ∙ ap tag_counts (c.as_slice.ensures.value ∙ sym c.from_vec-2.ensures) in
-    all_to_come c.args.task.now c.recall.ensures c.args.state.now c.args.reading c.args.known c.from_vec.result c.from_vec-2.result c.in_ok-tags.tags c.requires.ready c.requires.reading
+    all_to_come c.args.task.now c.recall.ensures c.args.state.now c.args.reading c.args.known c.from_vec.result c.from_vec-2.result c.in_ok-tags.tags c.from_vec-3.result c.requires.ready c.requires.reading
     (subst (AreSharedClasses c.args.task.now.declarations c.args.task.now.table (class_of c.args.state.now) c.args.task.now.sorted) (sym c.from_vec-2.ensures) exact)
     c.covering_choices_are_listed.ensures counts c.in_ok-tags.ensures.all_pending
 

@@ -1,11 +1,9 @@
 -- The last state is a leaf, and what it admits is to come at it.
 use Rattle.std.proofs.Common.{sym, subst, Option, Some}
-use Rattle.fvn_combine.specs.Search.{IsAdmitted, IsLeft}
 use Rattle.fvn_combine.specs.inner.Found.{IsStep}
 use Rattle.fvn_combine.specs.declared.opened.Leaf.{Leaf}
 use Rattle.fvn_combine.specs.declared.stepping.Step.TheVariants.{More}
 use Rattle.fvn_combine.proofs.Less.{left_falls}
-use Rattle.fvn_combine.proofs.Standing.{holds_both}
 use Rattle.fvn_combine.proofs.Trees.{closed_before, leaf_opened, after_opening}
 use Rattle.fvn_combine.proofs.stepping.open_last.Goals as goal
 
@@ -23,7 +21,6 @@ returns-in-Some-clause-stepped c =
     subst (λ l. IsStep k c.args.tree.now c.args.leaf.now c.take_top.new.self l More) (sym c.open_leaf.ensures) (
       c.in-Some.ensures.falls,
       leaf_opened k c.args.tree.now c.take_top.new.self c.args.opened l c.in-Some.state c.in-Some.ensures.taken,
-      holds_both k (IsAdmitted k c.args.tree.now) (IsLeft k c.take_top.new.self leaf)
-          (after_opening k c.args.tree.now c.take_top.new.self c.args.opened l c.in-Some.state c.in-Some.ensures.taken),
+      after_opening k c.args.tree.now c.take_top.new.self c.args.opened l c.in-Some.state c.in-Some.ensures.taken c.recall.ensures c.more_general_is_a_preorder.ensures,
       left_falls k c.args.tree.now c.take_top.new.self c.args.leaf.now leaf c.in-Some.ensures.falls l.looked.2,
     )

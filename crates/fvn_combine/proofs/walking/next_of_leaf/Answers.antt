@@ -3,11 +3,12 @@ use Rattle.std.proofs.Common.{◌<◌, ◌≤◌, ap, sym, subst, inr, arith}
 use Rattle.std.proofs.Math.Nat.{le_trans, lt_of_lt_of_le}
 use Rattle.std.proofs.lemmas.Result.{err_from_is_err_and}
 use Rattle.fvn_acunify_product.specs.Tags.{Tagging, tags_left}
+use Rattle.fvn_combine_loose.specs.Laws.{AreVariables}
 use Rattle.fvn_combine.specs.Leaves.{IsCoveredNow, IsCoveredToCome}
 use Rattle.fvn_combine.specs.Advancing.{IsCovered}
 use Rattle.fvn_combine.specs.inner.Found.{IsDrawnFrom, AreDrawnFrom, IsTurned, LeavesLess}
 use Rattle.fvn_combine.specs.Work.{leaf_left}
-use Rattle.fvn_combine.proofs.Walk.{to_come_was, to_come_kept, to_come_or, later_alone}
+use Rattle.fvn_combine.proofs.Walk.{variables_kept, to_come_was, to_come_kept, to_come_or, later_alone}
 use Rattle.fvn_combine.proofs.walking.next_of_leaf.Goals as goal
 
 pub returns-in_err-next_of_current-clause-fewer : goal.returns-in_err-next_of_current-clause-fewer
@@ -59,7 +60,10 @@ returns-in_err-turn-clause-drawn c =
     let new = c.next_of_current.new.opened in
     let none = subst (IsDrawnFrom k (IsCoveredNow k s old) (IsCoveredNow k s new)) c.in-Nothing.is c.in_ok-next_of_current.ensures.drawn in
     let p = err_from_is_err_and c.from_residual-in_err-turn.result c.from_residual-in_err-turn.ensures.1 in
-    subst (AreDrawnFrom k (IsCoveredToCome k s c.args.opened.now) (IsCoveredToCome k s c.turn.new.opened)) (sym p.1) (λ u h. subst (λ o. IsCoveredToCome k s o u) (sym c.in_err-turn.ensures.no_memory) (inr (later_alone k s old new c.next_of_current.ensures.same none u (c.tags.invariant.kept u h))))
+    subst (AreDrawnFrom k (IsCoveredToCome k s c.args.opened.now) (IsCoveredToCome k s c.turn.new.opened)) (sym p.1) (λ u h.
+    let m = c.tags.invariant.kept u h in
+    subst (λ o. IsCoveredToCome k s o u) (sym c.in_err-turn.ensures.no_memory)
+    (variables_kept k s old new c.next_of_current.ensures.same u m, inr (later_alone k s old new c.next_of_current.ensures.same none u m)))
 
 pub returns-then-not-branch-clause-drawn : goal.returns-then-not-branch-clause-drawn
 returns-then-not-branch-clause-drawn c = λ u h.
@@ -81,11 +85,15 @@ tags-preserved c =
     let turned = subst (IsTurned k s new c.turn.new.opened) c.if-not-branch.false c.in_ok-turn.ensures.turned in
     record {
       opened = turned.0;
-      fewer = λ u h. c.tags.invariant.fewer u (to_come_was k s old new c.next_of_current.ensures.same c.next_of_current.ensures.fewer u (inr (turned.3 u h)));
-      kept = λ u h. turned.2 u (later_alone k s old new c.next_of_current.ensures.same none u (c.tags.invariant.kept u h));
+      fewer = λ u h.
+          let variables = subst (λ l. AreVariables k.declarations k.table l u) turned.2 h.0 in
+          c.tags.invariant.fewer u (to_come_was k s old new c.next_of_current.ensures.same c.next_of_current.ensures.fewer u (variables, inr (turned.4 u h)));
+      kept = λ u h.
+          let m = c.tags.invariant.kept u h in
+          turned.3 u (variables_kept k s old new c.next_of_current.ensures.same u m) (later_alone k s old new c.next_of_current.ensures.same none u m);
       less =
           let less : leaf_left k new ≤ leaf_left k old = subst (LeavesLess (leaf_left k old) (leaf_left k new)) c.in-Nothing.is c.in_ok-next_of_current.ensures.falls in
-          le_trans turned.4 (le_trans less c.tags.invariant.less);
+          le_trans turned.5 (le_trans less c.tags.invariant.less);
     }
 
 pub tags-smaller : goal.tags-smaller
