@@ -88,12 +88,32 @@ def solved_sums(count):
     return " /\\ ".join(f"Z{i}:S =? _*_(_&_(V{i}:S, W{i}:S), _*_(_&_(X{i}:S, Y{i}:S), _&_(U{i}:S, b)))" for i in range(1, count + 1))
 
 
-def solved_tower(depth):
-    """Sums by two operators in one another, so deep, against a variable: solved as it stands."""
+def sums_in_turn(depth):
+    """Sums by two operators in one another, so deep."""
     term = "X:S"
     for i in range(1, depth + 1):
         term = f"_*_(_&_({term}, V{i}:S), _&_(a, W{i}:S))"
-    return f"{term} =? Z:S"
+    return term
+
+
+def solved_tower(depth):
+    """A tower against a variable: solved as it stands."""
+    return f"{sums_in_turn(depth)} =? Z:S"
+
+
+def loose_sums(count):
+    """So many pairs that are solved as they stand, in each a variable that two operators use."""
+    return " /\\ ".join(f"Z{i}:S =? _*_(_&_(V{i}:S, g(V{i}:S)), _*_(X{i}:S, _&_(X{i}:S, b)))" for i in range(1, count + 1))
+
+
+def sums_below_sums(count, rest):
+    """A summand with a constant beside one below another sum, so many times, against the like; their rests are one variable, or different ones."""
+    left, right = "X:S", "Y:S"
+    for i in range(1, count + 1):
+        one, other = ("W:S", "W:S") if rest == "one" else (f"W{i}:S", f"U{i}:S")
+        left = f"g(_&_(_*_(b, V{i}:S), _*_({left}, {one})))"
+        right = f"g(_&_(_*_(b, B{i}:S), _*_({right}, {other})))"
+    return f"{left} =? {right}"
 
 
 FAMILIES = [
@@ -132,7 +152,12 @@ FAMILIES = [
     ("identities in one another, two rests", "identities", {n: identities_in_one_another(n, "_*_(Z:S, Y:S)") for n in (3, 5, 6)}),
     ("known parts", "identities", {n: known_parts(n) for n in (1, 2, 3)}),
     ("solved sums", "identities", {n: solved_sums(n) for n in (1, 2, 3, 4)}),
-    ("solved towers", "identities", {n: solved_tower(n) for n in (2, 4, 6)}),
+    ("solved towers", "identities", {n: solved_tower(n) for n in (2, 4, 6, 12, 20)}),
+    ("loose in two sums", "identities", {n: loose_sums(n) for n in (2, 4, 6)}),
+    ("sums below sums", "identities", {n: sums_below_sums(n, "one") for n in (1, 2, 3)}),
+    ("sums below sums, other rests", "identities", {n: sums_below_sums(n, "other") for n in (1, 2, 3)}),
+    ("a tower beside a step", "identities", {n: f"c(Z:S, a) =? c({sums_in_turn(n)}, a)" for n in (2, 3, 4)}),
+    ("a tower against a sum", "identities", {n: f"_&_(Z:S, Y:S) =? {sums_in_turn(n)}" for n in (2, 3)}),
     ("choices beside each other", "processes", {1: "_|_(_+_(_|_(P:P, Q:P), R:P), P:P) =? _|_(_+_(_|_(Q:P, R:P), P:P), R:P)"}),
     ("bags that are not empty", "fruit", {n: f"{over('_;_', variables('N', 3, 'Ne'))} =? {over('_;_', variables('F', n, 'Fruit'))}" for n in (3, 4, 5)}),
     ("places", "places", {

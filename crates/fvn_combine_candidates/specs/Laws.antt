@@ -16,7 +16,7 @@ use Rattle.fvn_flat.specs.declared.solver.Pairs.{Pairs}
 use Rattle.fvn_combine_nodes.specs.Table.{NodeTable, IsWellMade, IsTableOf}
 use Rattle.fvn_combine_nodes.specs.Classes.{IsNodePartition}
 use Rattle.fvn_combine_nodes.specs.States.{Admits, IsClosed, class_of}
-use Rattle.fvn_combine_nodes.specs.Unifiers.{kernel}
+use Rattle.fvn_combine_nodes.specs.Unifiers.{value_at, kernel}
 use Rattle.fvn_combine_nodes.specs.declared.state.State.{State}
 use Rattle.fvn_combine_leaves.specs.Bases.{AreBases}
 use Rattle.fvn_combine_leaves.specs.Leaves.{IsLeaf}
@@ -26,6 +26,7 @@ use Rattle.fvn_combine_choices.specs.Choosing.{Systems, Choice, AreSystems, IsPo
 use Rattle.fvn_combine_admissible.specs.Listed.{systems_of, choice_of, tag_in}
 use Rattle.fvn_combine_complete.specs.CoveringChoices.{IsCovering}
 use Rattle.fvn_combine_complete.specs.Full.{IsFull}
+use Rattle.fvn_combine_complete.specs.Obeying.{ObeyHeads}
 use Rattle.fvn_combine_bounds.specs.Narrow.{KeepsBounds, KeepsSorts}
 use Rattle.fvn_acunify_product.specs.Tags.{IsOption}
 use Rattle.fvn_acunify_product.specs.Wheels.{Wheel, IsChoice}
@@ -83,13 +84,13 @@ CoveringChoicesAreListed =
     × ((tags : List (Option OpId)) → AreTags shared options tags → IsCovering d problem t s y u (choice_of r tags numbers)
     × (sorted ≡ true → KeepsBounds d t (class_of s) y (choice_of r tags numbers)) × ((k : ℕ) → tag_in tags k ≡ c.tag k))
 
--- at a leaf that admits its partition, each unifier on kinds, which keeps the sorts of the problem's variables where sorts are heeded, is covered by a
+-- at a leaf that admits its partition, each unifier on kinds whose values obey the leaf's heads, which keeps the sorts of the problem's variables where sorts are heeded, is covered by a
 -- choice that can be listed: by an option for each shared class, and, under their tags, by numbers that are choices of the wheels and make no class an alias
 abbrev pub ListsCover : Type 0
 ListsCover =
     (d : Declarations) → IsGood d → (problem : Problem) → IsProblem d problem → (t : NodeTable) → IsWellMade t → IsTableOf d problem t
-    → (s : State) → IsLeaf d t s → (r : Reading) → IsReading d t (class_of s) r → (bases : List (List Solution)) → AreBases r.sums bases
-    → (sorted : Bool) (shared : List SharedClass) → AreSharedClasses d t (class_of s) sorted shared → (u : Substitution) → IsKindUnifier d problem u → Admits s (kernel d u t.nodes)
+    → (s : State) (heads : List (Option OpId)) → IsLeaf d t heads s → (r : Reading) → IsReading d t (class_of s) r → (bases : List (List Solution)) → AreBases r.sums bases
+    → (sorted : Bool) (shared : List SharedClass) → AreSharedClasses d t (class_of s) sorted shared → (u : Substitution) → IsKindUnifier d problem u → Admits s (kernel d u t.nodes) → ObeyHeads d t heads (value_at d u t.nodes)
     → (sorted ≡ true → KeepsSorts d (variables_of problem) u)
     → (options : List ℕ) × (numbers : List ℕ) × AllZip IsOption (tag_counts shared) options
     × ((tags : List (Option OpId)) → AreTags shared options tags → IsCovering d problem t s (systems_of r bases) u (choice_of r tags numbers)

@@ -14,7 +14,7 @@ ghost use Rattle.fvn_combine_leaves.specs.Readings.{AreSums, IsReading};
 ghost use Rattle.fvn_combine_candidates.specs.inner.Turned.{IsTurned};
 
 use crate::defining::{copied_left, rows_left};
-use crate::once::are_choices_few;
+use crate::once::{HeadedSums, are_choices_few, heeded_bounds};
 use fvn_acunify::limits::LISTED_SOLUTIONS;
 use fvn_base::Seq;
 use fvn_base::limits::MINIMAL_SOLUTIONS;
@@ -22,7 +22,7 @@ use fvn_combine_leaves::{Reading, Sums};
 use fvn_combine_nodes::{State, Table};
 use fvn_lindio::{LinFault, Row, Solution, System, basis};
 use fvn_signature::Signature;
-use fvn_terms::NoMemory;
+use fvn_terms::{NoMemory, OpId};
 use std::alloc::Global;
 
 /// The most minimal solutions of the rows that define no column.
@@ -130,7 +130,7 @@ fn listed_basis(
     sig: &Signature,
     table: &Table,
     state: &State,
-    reading: &Reading,
+    headed: HeadedSums,
     sums: &Sums,
     sorted: bool,
 ) -> Result<Option<Seq<Solution>>, NoMemory>
@@ -145,16 +145,8 @@ fn listed_basis(
             if basis.len() <= MINIMAL_SOLUTIONS {
                 return Ok(Some(basis));
             }
-            let few = are_choices_few(
-                alloc,
-                sig,
-                table,
-                state,
-                reading,
-                sums,
-                sorted,
-                basis.as_slice(),
-            )?;
+            let bounds = heeded_bounds(alloc, sig, table, state, sums, sorted)?;
+            let few = are_choices_few(alloc, sig, headed, sums, &bounds, basis.as_slice())?;
             if !few {
                 return Ok(None);
             }
@@ -165,12 +157,16 @@ fn listed_basis(
 
 /// All minimal solutions of each sum operator of a reading, in the reading's order, for a state at which a system is
 /// refused; nothing where they are not found in that order, or are so many that choices among them are not listed.
+///
+/// How many choices there are is estimated by sorts, where these are heeded, and by heads: for each class an operator that
+/// is known to head its value, where one is known. What is said of heads is not relied on for more.
 pub fn bases_from_last(
     alloc: Global,
     sig: &Signature,
     table: &Table,
     state: &State,
     reading: &Reading,
+    heads: &[Option<OpId>],
     sorted: bool,
 ) -> Result<Option<Vec<Seq<Solution>>>, NoMemory>
     requires closed { IsClosed sig.now table.now state.now }
@@ -178,9 +174,13 @@ pub fn bases_from_last(
     ensures { IfOk result (λ o. IfSome o (λ v. AreBases reading.now.sums v.items)) }
 {
     let sums = reading.sums.as_slice();
+    let headed = HeadedSums {
+        operators: sums,
+        heads,
+    };
     let mut bases = Vec::new(alloc);
     for i in 0..sums.len() {
-        match listed_basis(alloc, sig, table, state, reading, &sums[i], sorted)? {
+        match listed_basis(alloc, sig, table, state, headed, &sums[i], sorted)? {
             None => return Ok(None),
             Some(basis) => bases.push(basis)?,
         }

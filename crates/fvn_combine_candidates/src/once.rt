@@ -9,7 +9,7 @@ use crate::neutral::is_neutral;
 use fvn_acunify::ColumnBounds;
 use fvn_base::limits::MINIMAL_SOLUTIONS;
 use fvn_combine_bounds::bounds_of;
-use fvn_combine_leaves::{Reading, Sums};
+use fvn_combine_leaves::Sums;
 use fvn_combine_nodes::{State, Table};
 use fvn_lindio::Solution;
 use fvn_signature::Signature;
@@ -23,8 +23,16 @@ const FREE_SOLUTIONS: usize = 4;
 /// The most solutions of which that is asked.
 const SHARED_OUT: usize = 31;
 
-// What sorts ask of the columns, where they are heeded.
-fn heeded_bounds(
+/// The sum operators of a state, and what is known of its classes.
+#[derive(Clone, Copy)]
+pub(crate) struct HeadedSums<'a> {
+    pub(crate) operators: &'a [Sums],
+    /// For each class an operator that heads its value, where one is known.
+    pub(crate) heads: &'a [Option<OpId>],
+}
+
+/// What sorts ask of the columns, where they are heeded.
+pub(crate) fn heeded_bounds(
     alloc: Global,
     sig: &Signature,
     table: &Table,
@@ -44,7 +52,7 @@ fn heeded_bounds(
     Ok(bounds)
 }
 
-// Whether another operator is read of the class of node k.
+// Whether another operator is known to head the class of node k.
 fn is_headed(heads: &[Option<OpId>], f: OpId, k: usize) -> bool {
     if k >= heads.len() {
         return false;
@@ -52,6 +60,17 @@ fn is_headed(heads: &[Option<OpId>], f: OpId, k: usize) -> bool {
     match heads[k] {
         None => false,
         Some(g) => g != f,
+    }
+}
+
+// Whether the operator itself is known to head it: then the class is a sum, and no constant.
+fn is_own(heads: &[Option<OpId>], f: OpId, k: usize) -> bool {
+    if k >= heads.len() {
+        return false;
+    }
+    match heads[k] {
+        None => false,
+        Some(g) => g == f,
     }
 }
 
@@ -66,12 +85,12 @@ fn has(list: &[usize], number: usize) -> bool {
 }
 
 // Whether column j has 1 in all, as a constant, or by what sorts ask.
-fn is_once(reading: &Reading, sums: &Sums, bounds: &ColumnBounds, j: usize) -> bool {
+fn is_once(heads: &[Option<OpId>], sums: &Sums, bounds: &ColumnBounds, j: usize) -> bool {
     if j >= sums.columns.len() {
         return false;
     }
     let k = sums.columns.as_slice()[j];
-    if is_headed(reading.heads.as_slice(), sums.operator, k) {
+    if is_headed(heads, sums.operator, k) {
         return true;
     }
     if !has(bounds.at_most_one.as_slice(), j) {
@@ -83,21 +102,13 @@ fn is_once(reading: &Reading, sums: &Sums, bounds: &ColumnBounds, j: usize) -> b
 // The columns that each choice takes once: those of constants, and those for which sorts ask it.
 fn once_columns(
     alloc: Global,
-    sig: &Signature,
-    table: &Table,
-    state: &State,
-    reading: &Reading,
+    heads: &[Option<OpId>],
     sums: &Sums,
-    sorted: bool,
-) -> Result<Vec<usize>, NoMemory>
-    requires associative { IsAssociative (axioms sig.now sums.now.operator) }
-    requires closed { IsClosed sig.now table.now state.now }
-    requires sums { AreSums sig.now table.now (class_of state.now) sums.now }
-{
-    let bounds = heeded_bounds(alloc, sig, table, state, sums, sorted)?;
+    bounds: &ColumnBounds,
+) -> Result<Vec<usize>, NoMemory> {
     let mut list = Vec::new(alloc);
     for j in 0..sums.columns.len() {
-        if !is_once(reading, sums, &bounds, j) {
+        if !is_once(heads, sums, bounds, j) {
             continue;
         }
         list.push(j)?;
@@ -182,8 +193,8 @@ fn lone_columns(
 }
 
 // Whether another sum operator has a column for the class of node k.
-fn is_shared(reading: &Reading, f: OpId, k: usize) -> bool {
-    for other in reading.sums.as_slice() {
+fn is_shared(operators: &[Sums], f: OpId, k: usize) -> bool {
+    for other in operators {
         if other.operator == f {
             continue;
         }
@@ -195,22 +206,29 @@ fn is_shared(reading: &Reading, f: OpId, k: usize) -> bool {
 }
 
 // Whether column j may be a constant's.
-fn may_be_constant(reading: &Reading, sums: &Sums, j: usize) -> bool {
+fn may_be_constant(headed: HeadedSums, sums: &Sums, j: usize) -> bool {
     if j >= sums.columns.len() {
         return false;
     }
     let k = sums.columns.as_slice()[j];
-    if is_headed(reading.heads.as_slice(), sums.operator, k) {
+    if is_headed(headed.heads, sums.operator, k) {
         return true;
     }
-    is_shared(reading, sums.operator, k)
+    if is_own(headed.heads, sums.operator, k) {
+        return false;
+    }
+    is_shared(headed.operators, sums.operator, k)
 }
 
 // The columns that may be those of constants.
-fn constant_columns(alloc: Global, reading: &Reading, sums: &Sums) -> Result<Vec<usize>, NoMemory> {
+fn constant_columns(
+    alloc: Global,
+    headed: HeadedSums,
+    sums: &Sums,
+) -> Result<Vec<usize>, NoMemory> {
     let mut list = Vec::new(alloc);
     for j in 0..sums.columns.len() {
-        if !may_be_constant(reading, sums, j) {
+        if !may_be_constant(headed, sums, j) {
             continue;
         }
         list.push(j)?;
@@ -244,29 +262,24 @@ fn are_few_open(
 }
 
 /// Whether choices among so many minimal solutions are not too many: at most 24 of these are not in each choice; or there
-/// are at most 31, and few of them may be taken or not beside those that stand in a column that each choice takes once.
+/// are at most 31, and few of them may be taken or not beside those that stand in a column that each choice takes once. A
+/// class that another operator is known to head is a constant, and one that the operator itself heads is none.
 pub(crate) fn are_choices_few(
     alloc: Global,
     sig: &Signature,
-    table: &Table,
-    state: &State,
-    reading: &Reading,
+    headed: HeadedSums,
     sums: &Sums,
-    sorted: bool,
+    bounds: &ColumnBounds,
     solutions: &[Solution],
-) -> Result<bool, NoMemory>
-    requires associative { IsAssociative (axioms sig.now sums.now.operator) }
-    requires closed { IsClosed sig.now table.now state.now }
-    requires sums { AreSums sig.now table.now (class_of state.now) sums.now }
-{
-    let once = once_columns(alloc, sig, table, state, reading, sums, sorted)?;
+) -> Result<bool, NoMemory> {
+    let once = once_columns(alloc, headed.heads, sums, bounds)?;
     if solutions.len() <= SHARED_OUT {
         if are_few_free(sig, sums, once.as_slice(), solutions) {
             return Ok(true);
         }
     }
     let lone = lone_columns(alloc, sig, sums, once.as_slice(), solutions)?;
-    let constants = constant_columns(alloc, reading, sums)?;
+    let constants = constant_columns(alloc, headed, sums)?;
     let neutral = is_neutral(sig, sums.operator);
     Ok(are_few_open(neutral, lone.as_slice(), constants.as_slice(), solutions))
 }

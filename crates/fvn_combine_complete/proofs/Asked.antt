@@ -204,7 +204,7 @@ module _ (d : Declarations) (t : NodeTable) (has : HasSums d t) (class : ℕ →
           other_told : (g : OpId) → Decided (g ≢ f)
           other_told g = elim (operator_told g f) [ inl same ↦ inr (λ n. n same) | inr n ↦ inl n ]
 
-module _ (d : Declarations) (t : NodeTable) (made : IsWellMade t) (has : HasSums d t) (s : State) (leaf : IsLeaf d t s) (told : IsTold d t (class_of s)) (values : ℕ → FlatTerm) (go_with : GoWith d t s values) (tag : ℕ → Option OpId) (obey : ObeyTags d t (class_of s) tag values) where
+module _ (d : Declarations) (t : NodeTable) (made : IsWellMade t) (has : HasSums d t) (s : State) {heads : List (Option OpId)} (leaf : IsLeaf d t heads s) (told : IsTold d t (class_of s)) (values : ℕ → FlatTerm) (go_with : GoWith d t s values) (tag : ℕ → Option OpId) (obey : ObeyTags d t (class_of s) tag values) where
   abbrev class : ℕ → ℕ
   class = class_of s
 

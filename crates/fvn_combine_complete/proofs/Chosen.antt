@@ -1,5 +1,5 @@
 -- Minimal solutions that values choose are acceptable, and the values are made of their pieces.
-use Rattle.std.proofs.Common.{◌≡◌, ℕ, zero, suc, ◌<◌, ◌≤◌, ◌^◌, true, List, [], ◌∷◌, length, get_or, sym, ap, ◌∙◌, subst, inl, inr, arith, All, Contains, pos, slice_get, sum_by}
+use Rattle.std.proofs.Common.{◌≡◌, ℕ, zero, suc, ◌<◌, ◌≤◌, ◌^◌, true, List, [], ◌∷◌, length, get_or, sym, ap, ◌∙◌, subst, inl, inr, arith, All, Contains, Option, pos, slice_get, sum_by}
 use Rattle.std.specs.Prelude.{Bool, ◌↔◌}
 use Rattle.std.proofs.lemmas.Bool.{cases_eq, or_cases}
 use Rattle.std.proofs.lemmas.List.{get_or-map, get_or_default}
@@ -27,7 +27,7 @@ use Rattle.fvn_combine_choices.specs.Choosing.{Systems, Choice, AreSystems, AreT
 use Rattle.fvn_combine_complete.specs.Laws.{IsChosen, NoAliases}
 use Rattle.fvn_combine_complete.specs.LaidOut.{laid_for}
 use Rattle.fvn_combine_choices.specs.Tables.{HasSums}
-use Rattle.fvn_combine_complete.specs.Obeying.{IsTold, GoWith, ObeyTags}
+use Rattle.fvn_combine_complete.specs.Obeying.{IsTold, GoWith, ObeyHeads, ObeyTags}
 use Rattle.fvn_combine_complete.specs.Obeyed.{IsSummand, AreMadeOf}
 use Rattle.fvn_combine_complete.proofs.Aliases.{laid_out_are}
 use Rattle.fvn_combine_complete.proofs.Asked.{uses_told}
@@ -37,7 +37,7 @@ use Rattle.fvn_combine_complete.proofs.Marked.{number_by, marked, number_small, 
 use Rattle.fvn_combine_complete.proofs.Taken.{contains_counted, laid_counts, sum_by_alike}
 use Rattle.fvn_combine_complete.proofs.Touching.{touched_none}
 use Rattle.fvn_combine_complete.proofs.TwoSummands.{shared_two}
-use Rattle.fvn_combine_complete.proofs.Values.{bound_used, may_be, constants_differ, alike_live}
+use Rattle.fvn_combine_complete.proofs.Values.{bound_used, may_be, constant_not_noted, constants_differ, alike_live}
 
 -- some component of a vector that is not zero
 some_component : (v : List ℕ) → 0 < sum_by (λ a. a) v → (j : ℕ) × (j < length v) × (0 < get_or v j 0)
@@ -45,7 +45,7 @@ some_component [] h = absurd (omega (arith, h))
 some_component (zero ∷ v) h = let r = some_component v (let e = sum_by-cons (λ a. a) 0 v in omega (arith, h, e)) in (suc r.0, (let l = r.1 in omega (arith, l)), r.2)
 some_component (suc n ∷ v) h = (0, omega arith, omega arith)
 
-module _ (d : Declarations) (t : NodeTable) (made : IsWellMade t) (has : HasSums d t) (s : State) (leaf : IsLeaf d t s) (told : IsTold d t (class_of s)) (values : ℕ → FlatTerm) (go_with : GoWith d t s values) (y : Systems) (systems : AreSystems d t (class_of s) y) (c : Choice) (obey : ObeyTags d t (class_of s) c.tag values)
+module _ (d : Declarations) (t : NodeTable) (made : IsWellMade t) (has : HasSums d t) (s : State) {heads : List (Option OpId)} (leaf : IsLeaf d t heads s) (told : IsTold d t (class_of s)) (values : ℕ → FlatTerm) (go_with : GoWith d t s values) (obey_heads : ObeyHeads d t heads values) (y : Systems) (systems : AreSystems d t (class_of s) y) (c : Choice) (obey : ObeyTags d t (class_of s) c.tag values)
     (f : OpId) (sum : IsSumOperator d t f) (constants : List ℕ) (may_be_zero : List Bool) (are_asked : AreAsked d t (class_of s) c.tag f (y.columns f) constants may_be_zero) (ch : IsChosen d f values (y.columns f) (y.system f) (y.basis f) constants may_be_zero) (also : List ℕ → Bool) (marks : List Bool) (are : AreMarks also marks ch.pieces (y.basis f)) (number : c.number f ≡ number_by marks)
     (neutral : (v : List ℕ) → also v ≡ true → IsNeutral d f) (bare : (v : List ℕ) → also v ≡ true → touched constants v ≡ 0) (law : MadeUpByTaken) where
   abbrev class : ℕ → ℕ
@@ -232,6 +232,7 @@ module _ (d : Declarations) (t : NodeTable) (made : IsWellMade t) (has : HasSums
         let minimal = (exact together.solution).0 (subst (Contains (y.basis f)) v_is (Contains-get_or (y.basis f) r.place [] r.within)) in
         absurd (constants_differ d t made has s leaf told values go_with c.tag obey f k l hk hl n
         (leaf.constants f k l (may_be d t made has s leaf told values go_with c.tag obey f k hk) (may_be d t made has s leaf told values go_with c.tag obey f l hl)
+        (constant_not_noted d t made has s leaf told values go_with c.tag obey obey_heads f k hk) (constant_not_noted d t made has s leaf told values go_with c.tag obey obey_heads f l hl)
         (record { columns = y.columns f; system = y.system f; is = is_node_system; solution = together.solution; minimal = minimal; left = together.left; right = together.right })
         (alike_live d t made has s leaf told values go_with c.tag obey f (y.columns f) together.solution alike))
         (alike k l hk hl together.left together.right))

@@ -37,13 +37,14 @@ module _ {d : Declarations} {problem : Problem} {t : NodeTable} {s : State} {y :
           (subst (IsTerm d) n.is (node_kinded d g.good.fits problem g.kinded t g.table n.number n.within)).1.0
 
 pub obeyed_choices_cover : UnifiersPartition → UnifiersGoWith → TablesHaveSums → ObeyedChoicesCover
-obeyed_choices_cover partitions go_with sums d good problem kinded t made table s leaf told y systems u unifier admits c obeying first next plan after plan_by bindings by =
+obeyed_choices_cover partitions go_with sums d good problem kinded t made table s heads leaf told y systems u unifier admits c obeying first next plan after plan_by bindings by =
     covered (record {
       good = good;
       kinded = kinded;
       made = made;
       table = table;
       has = sums d good.fits problem kinded t made table;
+      heads = heads;
       leaf = leaf;
       told = told;
       systems = systems;
@@ -57,18 +58,18 @@ obeyed_choices_cover partitions go_with sums d good problem kinded t made table 
     }) bindings by
 
 pub leaves_cover : UnifiersGoWith → TablesHaveSums → ValuesObeyChoices → ObeyedChoicesFall → ObeyedChoicesCover → LeavesCover
-leaves_cover go_with sums obey fall cover d good problem kinded t made table s leaf told y systems u unifier admits =
+leaves_cover go_with sums obey fall cover d good problem kinded t made table s heads leaf told y systems u unifier admits obey_heads =
     let has = sums d good.fits problem kinded t made table in
     let values = go_with d good.fits problem kinded t made table u unifier s leaf.closed admits in
-    let chosen = obey d good t made has s leaf told y systems (value_at d u t.nodes) values in
+    let chosen = obey d good t made has s heads leaf told y systems (value_at d u t.nodes) values obey_heads in
     let c = chosen.0 in
-    let ranked = fall d t made has s leaf told y (value_at d u t.nodes) values c chosen.3 in (
+    let ranked = fall d t made has s heads leaf told y (value_at d u t.nodes) values c chosen.3 in (
       c,
       record {
         possible = chosen.1;
         full = chosen.2;
         rank = ranked.0;
         falls = ranked.1;
-        covers = λ first next plan after plan_by bindings by. cover d good problem kinded t made table s leaf told y systems u unifier admits c chosen.3 first next plan after plan_by bindings by;
+        covers = λ first next plan after plan_by bindings by. cover d good problem kinded t made table s heads leaf told y systems u unifier admits c chosen.3 first next plan after plan_by bindings by;
       },
     )

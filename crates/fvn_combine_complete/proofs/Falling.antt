@@ -1,5 +1,5 @@
 -- Where values obey a choice, a class needs only classes of a lower rank.
-use Rattle.std.proofs.Common.{◌≡◌, ◌≢◌, ◌⊎◌, ℕ, ◌+◌, ◌*◌, ◌<◌, ◌≤◌, false, List, [], ◌∷◌, length, map, get_or, refl, sym, ap, ◌∙◌, subst, inl, inr, arith, Contains}
+use Rattle.std.proofs.Common.{◌≡◌, ◌≢◌, ◌⊎◌, ℕ, ◌+◌, ◌*◌, ◌<◌, ◌≤◌, false, List, [], ◌∷◌, length, map, get_or, refl, sym, ap, ◌∙◌, subst, inl, inr, arith, Contains, Option}
 use Rattle.std.specs.List.{AllByRecursion}
 use Rattle.std.proofs.lemmas.Bool.{cases_lt}
 use Rattle.std.proofs.lemmas.List.{get_or_default}
@@ -61,7 +61,7 @@ argument_smaller d f simple l q c = go (axioms d f) refl
     go AssocComm e = absurd (subst IsSimple e simple)
     go (AssocCommId o) e = absurd (subst IsSimple e simple)
 
-module _ (d : Declarations) (t : NodeTable) (made : IsWellMade t) (has : HasSums d t) (s : State) (leaf : IsLeaf d t s) (told : IsTold d t (class_of s)) (y : Systems) (values : ℕ → FlatTerm) (go_with : GoWith d t s values) (c : Choice) (obeying : AreObeying d t (class_of s) y c values) where
+module _ (d : Declarations) (t : NodeTable) (made : IsWellMade t) (has : HasSums d t) (s : State) (heads : List (Option OpId)) (leaf : IsLeaf d t heads s) (told : IsTold d t (class_of s)) (y : Systems) (values : ℕ → FlatTerm) (go_with : GoWith d t s values) (c : Choice) (obeying : AreObeying d t (class_of s) y c values) where
   abbrev class : ℕ → ℕ
   class = class_of s
 

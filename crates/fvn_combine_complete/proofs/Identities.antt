@@ -1,5 +1,5 @@
 -- Names of classes, and the nodes of identities: no value is the identity of two operators that use its class.
-use Rattle.std.proofs.Common.{◌≡◌, ◌≢◌, ◌⊎◌, ℕ, ◌<◌, [], ◌∷◌, length, get_or, sym, ap, ◌∙◌, subst, inl, inr, arith, Contains, Some}
+use Rattle.std.proofs.Common.{◌≡◌, ◌≢◌, ◌⊎◌, ℕ, ◌<◌, List, [], ◌∷◌, length, get_or, sym, ap, ◌∙◌, subst, inl, inr, arith, Contains, Option, Some}
 use Rattle.std.proofs.lemmas.Option.{slice_get_within}
 use Rattle.fvn_base.specs.Decided.{Decided}
 use Rattle.fvn_base.proofs.Decided.{decided_by}
@@ -55,7 +55,7 @@ pub record IsName (t : NodeTable) (class : ℕ → ℕ) (k : ℕ) : Type 0 where
   pub own : class k ≡ k
   pub within : k < length t.nodes
 
-module _ (d : Declarations) (t : NodeTable) (made : IsWellMade t) (s : State) (leaf : IsLeaf d t s) where
+module _ (d : Declarations) (t : NodeTable) (made : IsWellMade t) (s : State) {heads : List (Option OpId)} (leaf : IsLeaf d t heads s) where
   pub own_name : (f : OpId) (k : ℕ) → IsNodeColumn t (class_of s) f k → IsName t (class_of s) k
   own_name f k h = let n = column_of_node made.ordered f k h in at n.0 n.1.0 n.1.1
     where
@@ -77,7 +77,7 @@ module _ (d : Declarations) (t : NodeTable) (s : State) (values : ℕ → FlatTe
     ]
   ]
 
-module _ (d : Declarations) (t : NodeTable) (made : IsWellMade t) (has : HasSums d t) (s : State) (leaf : IsLeaf d t s) (values : ℕ → FlatTerm) (go_with : GoWith d t s values) where
+module _ (d : Declarations) (t : NodeTable) (made : IsWellMade t) (has : HasSums d t) (s : State) {heads : List (Option OpId)} (leaf : IsLeaf d t heads s) (values : ℕ → FlatTerm) (go_with : GoWith d t s values) where
   abbrev class : ℕ → ℕ
   class = class_of s
 

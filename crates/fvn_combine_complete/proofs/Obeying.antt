@@ -17,7 +17,7 @@ use Rattle.fvn_combine_leaves.specs.Leaves.{IsLeaf, IsSumOperator, Uses, IsShare
 use Rattle.fvn_combine_choices.specs.Choosing.{Systems, Choice, AreSystems, IsAcceptable, IsPossible}
 use Rattle.fvn_combine_complete.specs.Laws.{ValuesChoose, NoAliases, IsChosen}
 use Rattle.fvn_combine_choices.specs.Tables.{HasSums}
-use Rattle.fvn_combine_complete.specs.Obeying.{IsTold, GoWith, IsSumOrIdentityOf, ObeyTags}
+use Rattle.fvn_combine_complete.specs.Obeying.{IsTold, GoWith, IsSumOrIdentityOf, ObeyHeads, ObeyTags}
 use Rattle.fvn_combine_complete.specs.Full.{HasNoConstant, IsFull}
 use Rattle.fvn_combine_complete.specs.Neutral.{IsNeutral}
 use Rattle.fvn_combine_complete.specs.Obeyed.{AreMadeOf, AreObeying}
@@ -28,13 +28,13 @@ use Rattle.fvn_combine_complete.proofs.NeutralTold.{neutral_told}
 use Rattle.fvn_combine_complete.proofs.Touching.{bare_is}
 use Rattle.fvn_combine_complete.proofs.Tagging.{tags_exist}
 
-module _ (choose : ValuesChoose) (aliases : NoAliases) (law : MadeUpByTaken) (d : Declarations) (good : IsGood d) (t : NodeTable) (made : IsWellMade t) (has : HasSums d t) (s : State) (leaf : IsLeaf d t s) (told : IsTold d t (class_of s)) (y : Systems) (systems : AreSystems d t (class_of s) y) (values : ℕ → FlatTerm) (go_with : GoWith d t s values) where
+module _ (choose : ValuesChoose) (aliases : NoAliases) (law : MadeUpByTaken) (d : Declarations) (good : IsGood d) (t : NodeTable) (made : IsWellMade t) (has : HasSums d t) (s : State) (heads : List (Option OpId)) (leaf : IsLeaf d t heads s) (told : IsTold d t (class_of s)) (y : Systems) (systems : AreSystems d t (class_of s) y) (values : ℕ → FlatTerm) (go_with : GoWith d t s values) (obey_heads : ObeyHeads d t heads values) where
   abbrev class : ℕ → ℕ
   class = class_of s
 
   -- tags that the values obey, whatever classes are shared
   found : (tag : ℕ → Option OpId) × ObeyTags d t class tag values
-  found = tags_exist d t made has s leaf y systems values go_with
+  found = tags_exist d t made has s heads leaf y systems values go_with
 
   -- the tag of a class: the operator of which its value is a sum, or the identity, where the class is shared and this uses it
   record Tag (k : ℕ) (o : Option OpId) : Type 0 where
@@ -79,7 +79,7 @@ module _ (choose : ValuesChoose) (aliases : NoAliases) (law : MadeUpByTaken) (d 
 
   chosen_for : (f : OpId) (sum : IsSumOperator d t f) → IsChosen d f values (y.columns f) (y.system f) (y.basis f) (asked_for f sum).constants (asked_for f sum).may_be_zero
   chosen_for f sum =
-      choose d t made has s leaf told values go_with tag obey f sum (y.columns f) (y.system f) (systems.is_system f sum) (y.basis f) (systems.exact f sum)
+      choose d t made has s heads leaf told values go_with obey_heads tag obey f sum (y.columns f) (y.system f) (systems.is_system f sum) (y.basis f) (systems.exact f sum)
       (asked_for f sum).constants (asked_for f sum).may_be_zero (asked_for f sum).are_asked
 
   -- where the operator is neutral, solutions without a constant are taken with or without pieces
@@ -131,13 +131,13 @@ module _ (choose : ValuesChoose) (aliases : NoAliases) (law : MadeUpByTaken) (d 
 
   accepted : (f : OpId) → IsSumOperator d t f → (o : Decided (IsSumOperator d t f)) → sum_told d t f ≡ o → IsAcceptable d t class y choice f
   accepted f sum (inl h) e =
-      acceptable d t made has s leaf told values go_with y systems choice obey f h (asked_for f h).constants (asked_for f h).may_be_zero (asked_for f h).are_asked (chosen_for f h) (also f h) (marks_for f h) (marks_are f h) (ap (number_in f) e) (also_neutral f h) (also_bare f h) law aliases
+      acceptable d t made has s leaf told values go_with obey_heads y systems choice obey f h (asked_for f h).constants (asked_for f h).may_be_zero (asked_for f h).are_asked (chosen_for f h) (also f h) (marks_for f h) (marks_are f h) (ap (number_in f) e) (also_neutral f h) (also_bare f h) law aliases
   accepted f sum (inr n) e = absurd (n sum)
 
   made_up : (f : OpId) → IsSumOperator d t f → (o : Decided (IsSumOperator d t f)) → sum_told d t f ≡ o → AreMadeOf d t class y choice values f (pieces_in f (sum_told d t f))
   made_up f sum (inl h) e =
       subst (AreMadeOf d t class y choice values f) (sym (ap (pieces_in f) e))
-      (made_of d t made has s leaf told values go_with y systems choice obey f h (asked_for f h).constants (asked_for f h).may_be_zero (asked_for f h).are_asked (chosen_for f h) (also f h) (marks_for f h) (marks_are f h) (ap (number_in f) e) (also_neutral f h) (also_bare f h) law)
+      (made_of d t made has s leaf told values go_with obey_heads y systems choice obey f h (asked_for f h).constants (asked_for f h).may_be_zero (asked_for f h).are_asked (chosen_for f h) (also f h) (marks_for f h) (marks_are f h) (ap (number_in f) e) (also_neutral f h) (also_bare f h) law)
   made_up f sum (inr n) e = absurd (n sum)
 
   -- every solution without a constant is taken

@@ -1,5 +1,5 @@
 -- A leaf that admits a unifier's partition, with a choice that the unifier's values obey, and the kinds of the values.
-use Rattle.std.proofs.Common.{◌≡◌, ℕ, ◌<◌, [], ◌∷◌, length, sym, ap, ◌∙◌, subst, inl, inr, arith, Contains}
+use Rattle.std.proofs.Common.{◌≡◌, ℕ, ◌<◌, List, [], ◌∷◌, length, sym, ap, ◌∙◌, subst, inl, inr, arith, Contains, Option}
 use Rattle.std.proofs.lemmas.Option.{slice_get_within}
 use Rattle.fvn_base.proofs.Membership.{contains_cases, contains_none}
 use Rattle.fvn_terms.specs.declared.plain.OpId.{OpId}
@@ -43,7 +43,8 @@ pub record Setting (d : Declarations) (problem : Problem) (t : NodeTable) (s : S
   pub made : IsWellMade t
   pub table : IsTableOf d problem t
   pub has : HasSums d t
-  pub leaf : IsLeaf d t s
+  pub heads : List (Option OpId)
+  pub leaf : IsLeaf d t heads s
   pub told : IsTold d t (class_of s)
   pub systems : AreSystems d t (class_of s) y
   pub unifier : IsKindUnifier d problem u

@@ -1,5 +1,5 @@
 -- Tags that values obey, and the values of unifiers.
-use Rattle.std.proofs.Common.{◌≡◌, ℕ, ◌<◌, true, false, length, refl, sym, ap, ◌∙◌, subst, inl, inr, arith, Contains, Option, Some, None}
+use Rattle.std.proofs.Common.{◌≡◌, ℕ, ◌<◌, true, false, List, length, refl, sym, ap, ◌∙◌, subst, inl, inr, arith, Contains, Option, Some, None}
 use Rattle.std.specs.Prelude.{Bool, ◌↔◌}
 use Rattle.std.proofs.lemmas.Bool.{true≢false}
 use Rattle.fvn_base.proofs.Decided.{some_or_none}
@@ -46,7 +46,7 @@ one_head f g v a b = let e : Some f ≡ Some g = ap head_of (sym a.1 ∙ b.1) in
 one_constant : (e o : OpId) (v : FlatTerm) → v ≡ fconstant e → v ≡ fconstant o → e ≡ o
 one_constant e o v a b = let p : Some e ≡ Some o = ap head_of (sym a ∙ b) in Some-injective p
 
-module _ (d : Declarations) (t : NodeTable) (made : IsWellMade t) (has : HasSums d t) (s : State) (leaf : IsLeaf d t s) (y : Systems) (systems : AreSystems d t (class_of s) y) (values : ℕ → FlatTerm) (go_with : GoWith d t s values) where
+module _ (d : Declarations) (t : NodeTable) (made : IsWellMade t) (has : HasSums d t) (s : State) (heads : List (Option OpId)) (leaf : IsLeaf d t heads s) (y : Systems) (systems : AreSystems d t (class_of s) y) (values : ℕ → FlatTerm) (go_with : GoWith d t s values) where
   abbrev class : ℕ → ℕ
   class = class_of s
 

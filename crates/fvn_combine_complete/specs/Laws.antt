@@ -35,7 +35,7 @@ use Rattle.fvn_combine_complete.specs.Full.{IsFull}
 use Rattle.fvn_combine_complete.specs.LaidOut.{laid_out}
 use Rattle.fvn_combine_complete.specs.Obeyed.{AreObeying}
 use Rattle.fvn_combine_choices.specs.Tables.{HasSums}
-use Rattle.fvn_combine_complete.specs.Obeying.{IsTold, GoWith, ObeyTags}
+use Rattle.fvn_combine_complete.specs.Obeying.{IsTold, GoWith, ObeyHeads, ObeyTags}
 
 -- what is counted of each flat form in the columns of f solves f's system, and meets what is asked of the choice
 pub record CountsMeet (d : Declarations) (f : OpId) (values : ℕ → FlatTerm) (columns : List ℕ) (system : System) (basis : List (List ℕ)) (constants : List ℕ) (may_be_zero : List Bool) : Type 0 where
@@ -54,11 +54,11 @@ pub record IsChosen (d : Declarations) (f : OpId) (values : ℕ → FlatTerm) (c
   -- a solution that is chosen and has a constant has the value of its class as its one piece
   pub stand : StandAlone constants basis pieces (λ j. values (slice_index columns j))
 
--- what is counted of values that go with a leaf and obey tags meets what is asked for each sum operator
+-- what is counted of values that go with a leaf, and obey its heads and tags, meets what is asked for each sum operator
 abbrev pub ValuesMeetWhatIsAsked : Type 0
 ValuesMeetWhatIsAsked =
-    (d : Declarations) (t : NodeTable) → IsWellMade t → HasSums d t → (s : State) → IsLeaf d t s → IsTold d t (class_of s)
-    → (values : ℕ → FlatTerm) → GoWith d t s values → (tag : ℕ → Option OpId) → ObeyTags d t (class_of s) tag values
+    (d : Declarations) (t : NodeTable) → IsWellMade t → HasSums d t → (s : State) (heads : List (Option OpId)) → IsLeaf d t heads s → IsTold d t (class_of s)
+    → (values : ℕ → FlatTerm) → GoWith d t s values → ObeyHeads d t heads values → (tag : ℕ → Option OpId) → ObeyTags d t (class_of s) tag values
     → (f : OpId) → IsSumOperator d t f → (columns : List ℕ) (system : System) → IsNodeSystem t (class_of s) f columns system
     → (basis : List (List ℕ)) → ((v : List ℕ) → Contains basis v ↔ IsMinimal system.columns (rows_of system) v)
     → (constants : List ℕ) (may_be_zero : List Bool) → AreAsked d t (class_of s) tag f columns constants may_be_zero
@@ -67,8 +67,8 @@ ValuesMeetWhatIsAsked =
 -- such values choose minimal solutions for each sum operator
 abbrev pub ValuesChoose : Type 0
 ValuesChoose =
-    (d : Declarations) (t : NodeTable) → IsWellMade t → HasSums d t → (s : State) → IsLeaf d t s → IsTold d t (class_of s)
-    → (values : ℕ → FlatTerm) → GoWith d t s values → (tag : ℕ → Option OpId) → ObeyTags d t (class_of s) tag values
+    (d : Declarations) (t : NodeTable) → IsWellMade t → HasSums d t → (s : State) (heads : List (Option OpId)) → IsLeaf d t heads s → IsTold d t (class_of s)
+    → (values : ℕ → FlatTerm) → GoWith d t s values → ObeyHeads d t heads values → (tag : ℕ → Option OpId) → ObeyTags d t (class_of s) tag values
     → (f : OpId) → IsSumOperator d t f → (columns : List ℕ) (system : System) → IsNodeSystem t (class_of s) f columns system
     → (basis : List (List ℕ)) → ((v : List ℕ) → Contains basis v ↔ IsMinimal system.columns (rows_of system) v)
     → (constants : List ℕ) (may_be_zero : List Bool) → AreAsked d t (class_of s) tag f columns constants may_be_zero
@@ -104,7 +104,7 @@ TablesHaveSums = (d : Declarations) → FitsKinds d → (problem : Problem) → 
 -- values that go with a leaf obey some tags
 abbrev pub TagsExist : Type 0
 TagsExist =
-    (d : Declarations) (t : NodeTable) → IsWellMade t → HasSums d t → (s : State) → IsLeaf d t s → (y : Systems) → AreSystems d t (class_of s) y
+    (d : Declarations) (t : NodeTable) → IsWellMade t → HasSums d t → (s : State) (heads : List (Option OpId)) → IsLeaf d t heads s → (y : Systems) → AreSystems d t (class_of s) y
     → (values : ℕ → FlatTerm) → GoWith d t s values → (tag : ℕ → Option OpId) × ObeyTags d t (class_of s) tag values
 
 -- values that a unifier gives go with each state that admits its partition
@@ -113,17 +113,17 @@ UnifiersGoWith =
     (d : Declarations) → FitsKinds d → (problem : Problem) → IsProblem d problem → (t : NodeTable) → IsWellMade t → IsTableOf d problem t
     → (u : Substitution) → IsKindUnifier d problem u → (s : State) → IsClosed d t s → Admits s (kernel d u t.nodes) → GoWith d t s (value_at d u t.nodes)
 
--- values that go with a leaf obey a possible choice that is full
+-- values that go with a leaf and obey its heads obey a possible choice that is full
 abbrev pub ValuesObeyChoices : Type 0
 ValuesObeyChoices =
-    (d : Declarations) → IsGood d → (t : NodeTable) → IsWellMade t → HasSums d t → (s : State) → IsLeaf d t s → IsTold d t (class_of s)
-    → (y : Systems) → AreSystems d t (class_of s) y → (values : ℕ → FlatTerm) → GoWith d t s values
+    (d : Declarations) → IsGood d → (t : NodeTable) → IsWellMade t → HasSums d t → (s : State) (heads : List (Option OpId)) → IsLeaf d t heads s → IsTold d t (class_of s)
+    → (y : Systems) → AreSystems d t (class_of s) y → (values : ℕ → FlatTerm) → GoWith d t s values → ObeyHeads d t heads values
     → (c : Choice) × IsPossible d t (class_of s) y c × IsFull d t (class_of s) y c × AreObeying d t (class_of s) y c values
 
 -- where values obey a choice, a class needs only classes of a lower rank
 abbrev pub ObeyedChoicesFall : Type 0
 ObeyedChoicesFall =
-    (d : Declarations) (t : NodeTable) → IsWellMade t → HasSums d t → (s : State) → IsLeaf d t s → IsTold d t (class_of s)
+    (d : Declarations) (t : NodeTable) → IsWellMade t → HasSums d t → (s : State) (heads : List (Option OpId)) → IsLeaf d t heads s → IsTold d t (class_of s)
     → (y : Systems) (values : ℕ → FlatTerm) → GoWith d t s values
     → (c : Choice) → AreObeying d t (class_of s) y c values → (rank : ℕ → ℕ) × Falls d t (class_of s) y c rank
 
@@ -131,16 +131,17 @@ ObeyedChoicesFall =
 abbrev pub ObeyedChoicesCover : Type 0
 ObeyedChoicesCover =
     (d : Declarations) → IsGood d → (problem : Problem) → IsProblem d problem → (t : NodeTable) → IsWellMade t → IsTableOf d problem t
-    → (s : State) → IsLeaf d t s → IsTold d t (class_of s) → (y : Systems) → AreSystems d t (class_of s) y
+    → (s : State) (heads : List (Option OpId)) → IsLeaf d t heads s → IsTold d t (class_of s) → (y : Systems) → AreSystems d t (class_of s) y
     → (u : Substitution) → IsKindUnifier d problem u → Admits s (kernel d u t.nodes)
     → (c : Choice) → AreObeying d t (class_of s) y c (value_at d u t.nodes)
     → (first next : ℕ) (plan : Plan) → IsAfterNumbersOf problem first → IsPlanBy d t (class_of s) y c first next plan
     → (bindings : Bindings) → AreBindingsBy d problem (class_at t (class_of s)) plan bindings
     → CoversOnKinds d (variables_of problem) (unfolds_to d bindings) u
 
--- at a leaf that admits its partition, each unifier on kinds is covered by some choice
+-- at a leaf that admits its partition, each unifier on kinds whose values obey the leaf's heads is covered by some choice
 abbrev pub LeavesCover : Type 0
 LeavesCover =
     (d : Declarations) → IsGood d → (problem : Problem) → IsProblem d problem → (t : NodeTable) → IsWellMade t → IsTableOf d problem t
-    → (s : State) → IsLeaf d t s → IsTold d t (class_of s) → (y : Systems) → AreSystems d t (class_of s) y
-    → (u : Substitution) → IsKindUnifier d problem u → Admits s (kernel d u t.nodes) → (c : Choice) × IsCovering d problem t s y u c
+    → (s : State) (heads : List (Option OpId)) → IsLeaf d t heads s → IsTold d t (class_of s) → (y : Systems) → AreSystems d t (class_of s) y
+    → (u : Substitution) → IsKindUnifier d problem u → Admits s (kernel d u t.nodes) → ObeyHeads d t heads (value_at d u t.nodes)
+    → (c : Choice) × IsCovering d problem t s y u c

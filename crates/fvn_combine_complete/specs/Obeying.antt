@@ -1,5 +1,5 @@
--- Values that go with a leaf, and tags that they obey.
-use Rattle.std.specs.Prelude.{◌≡◌, ◌≢◌, ◌⊎◌, ◌↔◌, ℕ, ◌<◌, true, length, Option, Some}
+-- Values that go with a leaf, and heads and tags that they obey.
+use Rattle.std.specs.Prelude.{◌≡◌, ◌≢◌, ◌⊎◌, ◌↔◌, ℕ, ◌<◌, true, List, length, Option, Some}
 use Rattle.fvn_terms.specs.declared.plain.OpId.{OpId}
 use Rattle.fvn_terms.specs.declared.declarations.Declarations.{Declarations}
 use Rattle.fvn_terms.specs.Signature.{axioms}
@@ -9,7 +9,7 @@ use Rattle.fvn_combine_nodes.specs.Table.{NodeTable}
 use Rattle.fvn_combine_nodes.specs.States.{class_of, is_apart}
 use Rattle.fvn_combine_nodes.specs.declared.state.State.{State}
 use Rattle.fvn_combine_systems.specs.Values.{AreValues}
-use Rattle.fvn_combine_leaves.specs.Leaves.{IsSolid, Uses, IsShared}
+use Rattle.fvn_combine_leaves.specs.Leaves.{IsSolid, Uses, IsShared, IsNotedSum}
 
 -- of each class it is told whether an operator without an identity heads a member, and whether an operator other than a given one uses it
 pub record IsTold (d : Declarations) (t : NodeTable) (class : ℕ → ℕ) : Type 0 where
@@ -28,6 +28,10 @@ IsSumOf f v = (ts : FlatTerms) × (v ≡ fapp f true ts)
 -- the form is a sum of f, or f's identity
 abbrev pub IsSumOrIdentityOf : Declarations → OpId → FlatTerm → Type 0
 IsSumOrIdentityOf d f v = IsSumOf f v ⊎ ((e : OpId) × (identity (axioms d f) ≡ Some e) × (v ≡ fconstant e))
+
+-- where an operator with an identity is noted as what heads a class, the value is a sum of it
+abbrev pub ObeyHeads : Declarations → NodeTable → List (Option OpId) → (ℕ → FlatTerm) → Type 0
+ObeyHeads d t heads values = (k : ℕ) (f : OpId) → k < length t.nodes → IsNotedSum d t heads f k → IsSumOf f (values k)
 
 -- a shared class has an operator that uses it as its tag exactly where its value is a sum of it, or its identity
 abbrev pub ObeyTags : Declarations → NodeTable → (ℕ → ℕ) → (ℕ → Option OpId) → (ℕ → FlatTerm) → Type 0

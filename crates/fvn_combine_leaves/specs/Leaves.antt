@@ -1,5 +1,5 @@
 -- Leaves: states in which nothing is open that decides what classes are bound to.
-use Rattle.std.specs.Prelude.{◌≡◌, ◌≢◌, ◌⊎◌, ℕ, ◌<◌, pos, true, List, [], ◌∷◌, length, slice_get, Option, Some, None, Contains}
+use Rattle.std.specs.Prelude.{◌≡◌, ◌≢◌, ◌⊎◌, ℕ, ◌<◌, pos, List, length, slice_get, slice_index_or, Option, Some, None, Contains}
 use Rattle.fvn_terms.specs.declared.plain.OpId.{OpId}
 use Rattle.fvn_terms.specs.declared.declarations.Declarations.{Declarations}
 use Rattle.fvn_terms.specs.Signature.{axioms}
@@ -10,7 +10,7 @@ use Rattle.fvn_combine_systems.specs.FlatPartitions.{HasNoIdentity}
 use Rattle.fvn_combine_systems.specs.FlatSolvedLists.{component}
 use Rattle.fvn_combine_systems.specs.CombineNodesTable.{NodeTable, IsOver}
 use Rattle.fvn_combine_systems.specs.CombineNodesClasses.{IsNodePartition}
-use Rattle.fvn_combine_systems.specs.CombineNodesStates.{IsClosed, IsOpen, is_apart, class_of}
+use Rattle.fvn_combine_systems.specs.CombineNodesStates.{IsClosed, IsOpen, class_of}
 use Rattle.fvn_combine_systems.specs.CombineNodesDeclared.state.State.{State}
 use Rattle.fvn_combine_systems.specs.NodeSystems.{addends, sums, coefficient, IsNodeColumn, IsNodeSystem}
 
@@ -100,49 +100,26 @@ module _ (d : Declarations) (t : NodeTable) where
   IsLive s f columns solution = (k l : ℕ) → k ≢ l → IsSingle (class_of s) f k → IsSingle (class_of s) f l
       → 0 < component columns solution k → 0 < component columns solution l → AreTold s k l → ⊥
 
-  -- class k has another value than f's identity for sure: they have two heads, or are kept apart
-  abbrev pub IsToldSome : State → OpId → ℕ → Type 0
-  IsToldSome s f k = (p : OpId × ℕ) → Contains t.units p → p.0 ≡ f → HaveTwoHeads (class_of s) k (class_of s p.1) ⊎ (is_apart s k p.1 ≡ true)
+  -- f, which has an identity, is noted as what heads class k: the value is a sum by it
+  pub record IsNotedSum (heads : List (Option OpId)) (f : OpId) (k : ℕ) : Type 0 where
+    pub noted : slice_index_or heads k None ≡ Some f
+    pub some : HasNoIdentity (axioms d f) → ⊥
 
-  -- f heads a member of class k over two nodes, one of which is told so
-  pub record AddsSome (s : State) (f : OpId) (k : ℕ) : Type 0 where
-    pub member : ℕ
-    pub left : ℕ
-    pub right : ℕ
-    pub over : IsOver t.nodes member f (left ∷ right ∷ [])
-    pub of : class_of s member ≡ k
-    pub some : IsToldSome s f (class_of s left) ⊎ IsToldSome s f (class_of s right)
-
-  -- so class k is told itself, or it adds one that is
-  abbrev pub IsSome : State → OpId → ℕ → Type 0
-  IsSome s f k = IsToldSome s f k ⊎ AddsSome s f k
-
-  -- f adds two classes in class k of which neither has the value of its identity: it heads the value for sure
-  pub record IsSumForSure (s : State) (f : OpId) (k : ℕ) : Type 0 where
-    pub associative : IsAssociative (axioms d f)
-    pub member : ℕ
-    pub left : ℕ
-    pub right : ℕ
-    pub over : IsOver t.nodes member f (left ∷ right ∷ [])
-    pub of : class_of s member ≡ k
-    pub left_some : IsSome s f (class_of s left)
-    pub right_some : IsSome s f (class_of s right)
-
-  -- Nothing is open that decides what a class is bound to.
-  pub record IsLeaf (s : State) : Type 0 where
+  -- Nothing is open that decides what a class is bound to, where these heads of classes are known.
+  pub record IsLeaf (heads : List (Option OpId)) (s : State) : Type 0 where
     pub closed : IsClosed d t s
     pub partition : IsNodePartition d t (class_of s)
     -- whether a shared class has the identity of an operator that uses it, where another one with the same identity uses it too
     pub identities : (f : OpId) (k : ℕ) → IsShared (class_of s) k → Uses (class_of s) f k → HasTwin (class_of s) f k → (p : OpId × ℕ) → Contains t.units p → p.0 ≡ f → IsOpen s k p.1 → ⊥
-    -- whether two classes are one, where both may be constants of an operator, neither is a sum by it for sure, and a minimal solution
+    -- whether two classes are one, where both may be constants of an operator, neither is noted as a sum by it, and a minimal solution
     -- that may stand for a summand has both
     pub constants : (f : OpId) (k l : ℕ) → MayBeConstant (class_of s) f k → MayBeConstant (class_of s) f l
-        → (IsSumForSure s f k → ⊥) → (IsSumForSure s f l → ⊥)
+        → (IsNotedSum heads f k → ⊥) → (IsNotedSum heads f l → ⊥)
         → (both : AreTouched (class_of s) f k l) → IsLive s f both.columns both.solution → AreTold s k l
 
-  -- The same, whatever the minimal solutions are.
+  -- The same, whatever heads are known and the minimal solutions are.
   pub record IsFullLeaf (s : State) : Type 0 where
-    pub leaf : IsLeaf s
+    pub near : IsNearLeaf s
     pub constants : (f : OpId) (k l : ℕ) → MayBeConstant (class_of s) f k → MayBeConstant (class_of s) f l → AreTold s k l
 
   -- the question on two nodes is open; where there is none, the state is nearly a leaf
@@ -151,9 +128,9 @@ module _ (d : Declarations) (t : NodeTable) where
   IsFirstQuestion s (Some p) = (p.0 < length t.nodes) × (p.1 < length t.nodes) × IsOpen s p.0 p.1
 
   -- so it is; where there is none, the state is a leaf
-  abbrev pub IsQuestion : State → Option (ℕ × ℕ) → Type 0
-  IsQuestion s None = IsLeaf s
-  IsQuestion s (Some p) = (p.0 < length t.nodes) × (p.1 < length t.nodes) × IsOpen s p.0 p.1
+  abbrev pub IsQuestion : List (Option OpId) → State → Option (ℕ × ℕ) → Type 0
+  IsQuestion heads s None = IsLeaf heads s
+  IsQuestion heads s (Some p) = (p.0 < length t.nodes) × (p.1 < length t.nodes) × IsOpen s p.0 p.1
 
   -- the same; where there is none, it is one whatever the minimal solutions are
   abbrev pub IsFullQuestion : State → Option (ℕ × ℕ) → Type 0

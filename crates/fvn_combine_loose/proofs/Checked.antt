@@ -1,5 +1,5 @@
 -- What is checked of each node makes a class loose.
-use Rattle.std.proofs.Common.{◌≡◌, ◌≢◌, ℕ, zero, suc, ◌<◌, ◌≤◌, Bool, List, ◌+◌, length, map, get_or, refl, sym, ap, ◌∙◌, subst, inl, inr, arith, All, Option, Some, None, slice_get}
+use Rattle.std.proofs.Common.{◌≡◌, ◌≢◌, ℕ, zero, suc, ◌<◌, ◌≤◌, Bool, List, [], ◌∷◌, ◌+◌, length, map, get_or, refl, sym, ap, ◌∙◌, subst, inl, inr, arith, Option, Some, None}
 use Rattle.std.specs.Prelude.{Any, max}
 use Rattle.std.proofs.lemmas.List.{get_or-map, length-map, same_lists, get_or_default}
 use Rattle.std.proofs.lemmas.Bool.{cases_eq}
@@ -12,7 +12,7 @@ use Rattle.fvn_combine_nodes.specs.States.{class_of}
 use Rattle.fvn_combine_nodes.specs.declared.state.State.{State}
 use Rattle.fvn_combine_nodes.specs.declared.table.Node.TheVariants.{App}
 use Rattle.fvn_combine_nodes.proofs.Nodes.{over_unique}
-use Rattle.fvn_combine_loose.specs.Loose.{height_of, IsHeaded, IsLoose}
+use Rattle.fvn_combine_loose.specs.Loose.{height_of, AreMadeAlike, IsLoose}
 use Rattle.fvn_combine_loose.specs.inner.Checks.{IsHighest, IsRaised, IsNoted, IsBuilt, AreFine}
 
 -- what is not zero
@@ -30,6 +30,16 @@ together_from class ks ls n same =
     let r : i < length ls = omega arith in
     get_or-map class ks i 0 d l ∙ same i l ∙ sym (get_or-map class ls i 0 d r)
     )
+
+-- what is made alike a third one
+alike_joined : (d : Declarations) (class : ℕ → ℕ) (f : OpId) (ks ls ms : List ℕ) → AreMadeAlike d class f ks ms → AreMadeAlike d class f ls ms → AreMadeAlike d class f ks ls
+alike_joined d class f ks ls ms (inl a) (inl b) = inl (a ∙ sym b)
+alike_joined d class f ks ls ms (inl a) (inr w) = inr (w.0, record { first = w.1.second; second = w.1.first; left = a ∙ w.1.right; right = w.1.left })
+alike_joined d class f ks ls ms (inr w) (inl b) = inr (w.0, record { first = w.1.first; second = w.1.second; left = w.1.left; right = b ∙ w.1.right })
+alike_joined d class f ks ls ms (inr w) (inr v) = inl (w.1.left ∙ turned (sym w.1.right ∙ v.1.right) ∙ sym v.1.left)
+  where
+    turned : {m n p q : ℕ} → m ∷ n ∷ [] ≡ p ∷ q ∷ [] → n ∷ m ∷ [] ≡ q ∷ p ∷ []
+    turned e = cc
 
 -- what holds of the numbers below one, and of it
 pub one_more : (P : ℕ → Type 0) (i : ℕ) → ((k : ℕ) → k < i → P k) → P i → (k : ℕ) → k < i + 1 → P k
@@ -103,17 +113,20 @@ module _ (d : Declarations) (t : NodeTable) (s : State) (marks : List Bool) (hei
     elsewhere : (i : ℕ) (f : OpId) (ks : List ℕ) → IsOver t.nodes i f ks → class_of s i ≢ class_of s z
     elsewhere i f ks is e = (at_over i f ks is).bottom e f ks is
 
-    noted_over : (i : ℕ) (f : OpId) (ks : List ℕ) → IsOver t.nodes i f ks → 0 < height_of s heights i → IsNoted t s heads i
+    noted_over : (i : ℕ) (f : OpId) (ks : List ℕ) → IsOver t.nodes i f ks → 0 < height_of s heights i → IsNoted d t s heads i
     noted_over i f ks is stands = (fine.each i ((at_over i f ks is).marked (elsewhere i f ks is) stands)).noted
 
     -- what is like one node is alike
-    same_way : (i j : ℕ) (f g : OpId) (ks ls : List ℕ) → IsOver t.nodes i f ks → IsOver t.nodes j g ls → class_of s i ≡ class_of s j → IsNoted t s heads i → IsNoted t s heads j → (f ≡ g) × AreTogether (class_of s) ks ls
+    same_way : (i j : ℕ) (f g : OpId) (ks ls : List ℕ) → IsOver t.nodes i f ks → IsOver t.nodes j g ls → class_of s i ≡ class_of s j → IsNoted d t s heads i → IsNoted d t s heads j → (f ≡ g) × AreMadeAlike d (class_of s) f ks ls
     same_way i j f g ks ls a b e p q =
         let one : p.member ≡ q.member = some_same (sym p.noted ∙ ap (λ c. get_or heads c None) e ∙ q.noted) in
         let u = over_unique t.nodes p.member p.like.operator q.like.operator p.like.arguments q.like.arguments p.like.over (subst (λ m. IsOver t.nodes m q.like.operator q.like.arguments) (sym one) q.like.over) in
         let l = p.like.alike f ks a in
         let r = q.like.alike g ls b in
-        (l.0 ∙ u.0 ∙ sym r.0, l.1 ∙ ap (map (class_of s)) u.1 ∙ sym r.1)
+        let one_operator : f ≡ g = l.0 ∙ u.0 ∙ sym r.0 in
+        let of_f : AreMadeAlike d (class_of s) f ls q.like.arguments = subst (λ o. AreMadeAlike d (class_of s) o ls q.like.arguments) (sym one_operator) r.1 in
+        let both = subst (AreMadeAlike d (class_of s) f ls) (sym u.1) of_f in
+        (one_operator, alike_joined d (class_of s) f ks ls p.like.arguments l.1 both)
       where
         some_same : {m n : ℕ} → Some m ≡ Some n → m ≡ n
         some_same e = cc

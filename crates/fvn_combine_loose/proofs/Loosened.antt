@@ -72,7 +72,7 @@ module _ {d : Declarations} {problem : Problem} {t : NodeTable} {s : State} {z :
 
   over_remade : (i : ℕ) (f : OpId) (ks : List ℕ) → IsOver t.nodes i f ks → i < length t.nodes → BEqual d (app f (pack (map (remade g) ks))) (remade g i)
   over_remade i f ks over l = elim (cases_lt 0 (height i)) as (λ _. BEqual d (app f (pack (map (remade g) ks))) (remade g i)) [
-    | inl st ↦ equal_is d (sym (remade_over g i f ks over l st))
+    | inl st ↦ BEqual-sym d (remade_over g i f ks over l st)
     | inr le ↦
         let low : height i ≡ 0 = omega (arith, le) in
         let args = each_equal d (remade g) (λ k. apply u (term_at t.nodes k)) ks

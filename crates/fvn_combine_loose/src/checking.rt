@@ -2,7 +2,7 @@
 ghost use Rattle.std.specs.Prelude.{◌≡◌, ℕ, ◌<◌, length, slice_index_or, None, All, IsTrue, IfOk};
 ghost use Rattle.fvn_combine_nodes.specs.Classes.{AreTogether};
 ghost use Rattle.fvn_combine_nodes.specs.States.{IsClosed, class_of};
-ghost use Rattle.fvn_combine_loose.specs.Loose.{height_of, IsLoose};
+ghost use Rattle.fvn_combine_loose.specs.Loose.{height_of, AreCrosswise, AreMadeAlike, IsLoose};
 ghost use Rattle.fvn_combine_loose.specs.inner.Checks.{IsHighest, IsRaised, AreRaised, IsVariable, AreOver, IsLike, IsNoted, IsMarked, IsBuilt, AreOfSort, IsOfSort, IsFine, AreFine};
 ghost use Rattle.fvn_combine_loose.specs.inner.NodeSorts.{HaveSorts};
 
@@ -102,12 +102,45 @@ fn are_together(state: &State, ks: &[usize], ls: &[usize]) -> bool
     true
 }
 
-// Whether node i is a variable, or this operator over the classes of these nodes.
-fn is_over(table: &Table, state: &State, i: usize, g: OpId, ls: &[usize]) -> bool
+// Whether the lists are of two nodes each, and those of one are in the classes of those of the other crosswise.
+fn are_crosswise(state: &State, ks: &[usize], ls: &[usize]) -> bool
+    requires left { All (λ k. k < length state.now.names) ks.now }
+    requires right { All (λ k. k < length state.now.names) ls.now }
+    ensures { IsTrue result → AreCrosswise (class_of state.now) ks.now ls.now }
+{
+    if ks.len() != 2 {
+        return false;
+    }
+    if ls.len() != 2 {
+        return false;
+    }
+    if state.class_of(ks[0]) != state.class_of(ls[1]) {
+        return false;
+    }
+    state.class_of(ks[1]) == state.class_of(ls[0])
+}
+
+// Whether arguments of an operator are in the same classes place by place, or crosswise where it is commutative.
+fn are_made_alike(sig: &Signature, state: &State, f: OpId, ks: &[usize], ls: &[usize]) -> bool
+    requires left { All (λ k. k < length state.now.names) ks.now }
+    requires right { All (λ k. k < length state.now.names) ls.now }
+    ensures { IsTrue result → AreMadeAlike sig.now (class_of state.now) f ks.now ls.now }
+{
+    if are_together(state, ks, ls) {
+        return true;
+    }
+    if !sig.axioms(f).is_commutative() {
+        return false;
+    }
+    are_crosswise(state, ks, ls)
+}
+
+// Whether node i is a variable, or this operator over arguments that are made alike these nodes.
+fn is_over(sig: &Signature, table: &Table, state: &State, i: usize, g: OpId, ls: &[usize]) -> bool
     requires whole { length state.now.names ≡ length table.now.nodes }
     requires within { i < length table.now.nodes }
     requires all { All (λ k. k < length table.now.nodes) ls.now }
-    ensures { IsTrue result → AreOver table.now state.now i g ls.now }
+    ensures { IsTrue result → AreOver sig.now table.now state.now i g ls.now }
 {
     table.recall_well_made();
     match table.node(i) {
@@ -116,17 +149,17 @@ fn is_over(table: &Table, state: &State, i: usize, g: OpId, ls: &[usize]) -> boo
             if *f != g {
                 return false;
             }
-            are_together(state, ks.as_slice(), ls)
+            are_made_alike(sig, state, *f, ks.as_slice(), ls)
         }
     }
 }
 
-// Whether an operator heads node m, which is in the class of node i, and node i is a variable, or is it over the same
-// classes.
-pub(crate) fn is_like(table: &Table, state: &State, m: usize, i: usize) -> bool
+// Whether an operator heads node m, which is in the class of node i, and node i is a variable, or is it over arguments that
+// are made alike.
+pub(crate) fn is_like(sig: &Signature, table: &Table, state: &State, m: usize, i: usize) -> bool
     requires whole { length state.now.names ≡ length table.now.nodes }
     requires within { i < length table.now.nodes }
-    ensures { IsTrue result → IsLike table.now state.now m i }
+    ensures { IsTrue result → IsLike sig.now table.now state.now m i }
 {
     table.recall_well_made();
     if m >= table.nodes().len() {
@@ -137,19 +170,25 @@ pub(crate) fn is_like(table: &Table, state: &State, m: usize, i: usize) -> bool
     }
     match table.node(m) {
         Node::Var(_) => false,
-        Node::App(g, ls) => is_over(table, state, i, *g, ls.as_slice()),
+        Node::App(g, ls) => is_over(sig, table, state, i, *g, ls.as_slice()),
     }
 }
 
 // Whether node i is like the node that is noted to head its class.
-fn is_noted(table: &Table, state: &State, heads: &[Option<usize>], i: usize) -> bool
+fn is_noted(
+    sig: &Signature,
+    table: &Table,
+    state: &State,
+    heads: &[Option<usize>],
+    i: usize,
+) -> bool
     requires whole { length state.now.names ≡ length table.now.nodes }
     requires within { i < length table.now.nodes }
-    ensures { IsTrue result → IsNoted table.now state.now heads.now i }
+    ensures { IsTrue result → IsNoted sig.now table.now state.now heads.now i }
 {
     match head_at(state, heads, i) {
         None => false,
-        Some(m) => is_like(table, state, m, i),
+        Some(m) => is_like(sig, table, state, m, i),
     }
 }
 
@@ -215,7 +254,7 @@ fn is_fine(
     requires within { i < length table.now.nodes }
     ensures { IsTrue result → IsFine sig.now table.now state.now heads.now i }
 {
-    if !is_noted(table, state, heads, i) {
+    if !is_noted(sig, table, state, heads, i) {
         return false;
     }
     match table.node(i) {

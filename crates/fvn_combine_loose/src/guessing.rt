@@ -3,6 +3,7 @@ ghost use Rattle.std.specs.Prelude.{◌≡◌, ◌<◌, length, All, IfOk};
 
 use crate::checking::{head_at, height_at, highest, is_like};
 use fvn_combine_nodes::{Node, State, Table};
+use fvn_signature::Signature;
 use fvn_terms::NoMemory;
 use std::alloc::Global;
 
@@ -77,6 +78,7 @@ fn set_head(heads: &mut Vec<Option<usize>>, class: usize, i: usize) {
 // Notes node i, which an operator heads, as the head of its class, and bars the class where it has another head, or where
 // it stands in itself.
 fn note(
+    sig: &Signature,
     table: &Table,
     state: &State,
     heads: &mut Vec<Option<usize>>,
@@ -97,7 +99,7 @@ fn note(
             match head_at(state, heads.as_slice(), i) {
                 None => set_head(heads, class, i),
                 Some(m) => {
-                    if !is_like(table, state, m, i) {
+                    if !is_like(sig, table, state, m, i) {
                         bar(barred, class);
                     }
                 }
@@ -133,14 +135,19 @@ fn pass_all_down(table: &Table, state: &State, barred: &mut Vec<bool>)
 }
 
 // The ways in which classes are made.
-pub(crate) fn ways_of(alloc: Global, table: &Table, state: &State) -> Result<Ways, NoMemory>
+pub(crate) fn ways_of(
+    alloc: Global,
+    sig: &Signature,
+    table: &Table,
+    state: &State,
+) -> Result<Ways, NoMemory>
     requires whole { length state.now.names ≡ length table.now.nodes }
 {
     let count = table.nodes().len();
     let mut heads = headless(alloc, count)?;
     let mut barred = unbarred(alloc, count)?;
     for i in 0..count {
-        note(table, state, &mut heads, &mut barred, i);
+        note(sig, table, state, &mut heads, &mut barred, i);
     }
     pass_all_down(table, state, &mut barred);
     Ok(Ways { heads, barred })

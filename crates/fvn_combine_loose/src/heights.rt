@@ -103,7 +103,7 @@ fn find_loose(
             heights: Vec::new(alloc),
         });
     }
-    let ways = ways_of(alloc, table, state)?;
+    let ways = ways_of(alloc, sig, table, state)?;
     if !has_candidate(table, state, &ways) {
         return Ok(Found {
             classes: Vec::new(alloc),

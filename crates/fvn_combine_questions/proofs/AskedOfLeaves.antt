@@ -17,12 +17,12 @@ use Rattle.fvn_combine_nodes.specs.declared.state.State.{State}
 use Rattle.fvn_combine_nodes.proofs.Nodes.{arguments_within}
 use Rattle.fvn_combine_nodes.proofs.Lists.{all_from}
 use Rattle.fvn_combine_systems.proofs.Weighing.{component_at}
-use Rattle.fvn_combine_leaves.specs.Leaves.{IsSolid, Uses, IsShared, MayBeConstant, IsSingle, HaveTwoHeads, AreTouched, AreTold, IsLive, IsNearLeaf, IsLeaf, IsFirstQuestion, IsQuestion, IsFullQuestion}
+use Rattle.fvn_combine_leaves.specs.Leaves.{IsSolid, Uses, IsShared, MayBeConstant, IsSingle, HaveTwoHeads, AreTouched, AreTold, IsLive, IsNotedSum, IsNearLeaf, IsFirstQuestion, IsQuestion, IsFullQuestion}
 use Rattle.fvn_combine_leaves.specs.Bases.{AreBases}
 use Rattle.fvn_combine_leaves.specs.Readings.{AreSums, IsReading}
 use Rattle.fvn_combine_questions.specs.inner.Past.{IsOpenPairOr, IsPastUser, ArePastIdentities, ArePastClasses, ArePastPairs}
 use Rattle.fvn_combine_leaves.specs.Users.{IsWhole, HasTwinIn, head_of, IsSharedIn, CanStand, CanBeConstant, HaveHeads}
-use Rattle.fvn_combine_questions.specs.inner.Touched.{AreAllWide, IsSingleIn, AreToldIn, IsDead, IsPastSolution, AreAllPast}
+use Rattle.fvn_combine_questions.specs.inner.Touched.{AreAllWide, IsNotedIn, IsSingleIn, AreToldIn, IsDead, IsPastSolution, AreAllPast}
 use Rattle.fvn_combine_leaves.specs.declared.reading.Sums.{Sums}
 use Rattle.fvn_combine_leaves.specs.declared.reading.Reading.{Reading}
 use Rattle.fvn_combine_leaves.proofs.ReadOfState.{column_within, reading_whole as whole_of_nodes, marked_to, marked_from, entry_of, twin_in, shared_in}
@@ -42,7 +42,7 @@ module _ (d : Declarations) (t : NodeTable) (made : IsWellMade t) (s : State) (c
       let right = arguments_within t.nodes made.ordered h.right h.operator (p.1 ∷ h.right_second ∷ []) h.right_is in
       (left 0 0 (omega arith), right 0 0 (omega arith), h.undecided)
 
-  pub pair_question : (P : Type 0) (p : ℕ × ℕ) → IsOpenPairOr s P (Some p) → IsQuestion d t s (Some p)
+  pub pair_question : (P : Type 0) (p : ℕ × ℕ) → IsOpenPairOr s P (Some p) → IsFirstQuestion d t s (Some p)
   pair_question P p h = let w = closed.whole in let a = h.0 in let b = h.1 in (omega (arith, a, w), omega (arith, b, w), h.2)
 
   module _ (r : Reading) (reading : IsReading d t (class_of s) r) where
@@ -100,18 +100,9 @@ module _ (d : Declarations) (t : NodeTable) (made : IsWellMade t) (s : State) (c
     first_asked partition None past = near_is partition past
     first_asked partition (Some p) h = pair_question ((k : ℕ) → k < length s.names → IsSharedIn r k → ArePastIdentities d t s r.sums k) p h
 
-    -- a leaf, where classes that may be constants and that a solution has both of are told apart
-    leaf_is : IsNearLeaf d t s → ((f : OpId) (k l : ℕ) → MayBeConstant d t (class_of s) f k → MayBeConstant d t (class_of s) f l → (both : AreTouched d t (class_of s) f k l) → IsLive d t s f both.columns both.solution → AreTold d t s k l) → IsLeaf d t s
-    leaf_is near h = record {
-      closed = near.closed;
-      partition = near.partition;
-      identities = near.identities;
-      constants = h;
-    }
-
     -- the answer where all pairs are asked
     pub asked_on_all : IsNearLeaf d t s → (o : Option (ℕ × ℕ)) → IsOpenPairOr s (All (λ e. ArePastPairs s r e e.columns) r.sums) o → IsFullQuestion d t s o
-    asked_on_all near None pairs = record { leaf = leaf_is near (λ f k l mk ml both live. told f k l mk ml); constants = told }
+    asked_on_all near None pairs = record { near = near; constants = told }
       where
         told : (f : OpId) (k l : ℕ) → MayBeConstant d t (class_of s) f k → MayBeConstant d t (class_of s) f l → AreTold d t s k l
         told f k l mk ml =
@@ -119,7 +110,7 @@ module _ (d : Declarations) (t : NodeTable) (made : IsWellMade t) (s : State) (c
             apart_at pairs a.entry a.listed k l (subst (λ o. MayBeConstant d t (class_of s) o k) (sym a.operator) mk) (subst (λ o. MayBeConstant d t (class_of s) o l) (sym a.operator) ml)
     asked_on_all near (Some p) h = pair_question (All (λ e. ArePastPairs s r e e.columns) r.sums) p h
 
-    module _ (bases : List (List Solution)) (are : AreBases r.sums bases) where
+    module _ (heads : List (Option OpId)) (bases : List (List Solution)) (are : AreBases r.sums bases) where
       -- the solutions of each operator have one part a column
       pub all_wide : AreAllWide r.sums bases
       all_wide i e at =
@@ -129,7 +120,7 @@ module _ (d : Declarations) (t : NodeTable) (made : IsWellMade t) (s : State) (c
           let minimal = (basis.exact v.parts).0 (contains_map (λ (w : Solution). w.parts) (get_or bases i []) v c) in
           minimal.solves.sized ∙ sums.is_system.wide)
 
-      module _ (past : AreAllPast r s r.sums bases) where
+      module _ (past : AreAllPast r s (IsNotedIn d heads) r.sums bases) where
         -- classes that may be constants of the operator at this place are told apart, where a solution of its system has both
         module _ (e : Sums) (c : Contains r.sums e) where
           at_place : slice_get r.sums c.0 ≡ Some e
@@ -164,7 +155,7 @@ module _ (d : Declarations) (t : NodeTable) (made : IsWellMade t) (s : State) (c
               let c = (sums_of.is_system.exact k).1 m.used.column in
               (c.0, c.1, get_or_default e.columns c.0 0 k c.1 ∙ c.2)
 
-          module _ (k l : ℕ) (mk : MayBeConstant d t (class_of s) e.operator k) (ml : MayBeConstant d t (class_of s) e.operator l) (h : AreTouched d t (class_of s) e.operator k l) (live : IsLive d t s e.operator h.columns h.solution) where
+          module _ (k l : ℕ) (mk : MayBeConstant d t (class_of s) e.operator k) (ml : MayBeConstant d t (class_of s) e.operator l) (nk : IsNotedSum d t heads e.operator k → ⊥) (nl : IsNotedSum d t heads e.operator l → ⊥) (h : AreTouched d t (class_of s) e.operator k l) (live : IsLive d t s e.operator h.columns h.solution) where
             abbrev carried_solution : List ℕ
             carried_solution = carry h.columns e.columns h.solution
 
@@ -199,6 +190,10 @@ module _ (d : Declarations) (t : NodeTable) (made : IsWellMade t) (s : State) (c
                 (omega (arith, a, left)) (omega (arith, b, right))
                 (told_of i j i_within j_within x.dead.told)
 
+            -- a class of which no sum is noted is not found as one
+            not_noted : (m : ℕ) → (IsNotedSum d t heads e.operator m → ⊥) → (i : ℕ) → get_or e.columns i 0 ≡ m → IsNotedIn d heads e.operator (get_or e.columns i 0) → ⊥
+            not_noted m n i at h = let own = subst (IsNotedIn d heads e.operator) at h in n (record { noted = own.0; some = own.1 })
+
             apart_where_touched : AreTold d t s k l
             apart_where_touched =
                 let i = column_of k mk in
@@ -209,18 +204,18 @@ module _ (d : Declarations) (t : NodeTable) (made : IsWellMade t) (s : State) (c
                 let at_j = ap (component h.columns h.solution) j.2 in
                 let p = h.left in
                 let q = h.right in
-                elim (All-contains (IsPastSolution r e s) (get_or bases c.0 []) own (past c.0 e at_place) own_solution.1.0) [
+                elim (All-contains (IsPastSolution r e s (IsNotedIn d heads)) (get_or bases c.0 []) own (past c.0 e at_place) own_solution.1.0) [
                   | inl x ↦ absurd (not_dead x)
-                  | inr at ↦ subst₂ (AreTold d t s) i.2 j.2 (told_of i.0 j.0 i.1 j.1 (at i.0 i.1 (omega (arith, a, at_i, p), subst (CanBeConstant r e) (sym i.2) (can_be e c k mk)) j.0 j.1 (omega (arith, b, at_j, q), subst (CanBeConstant r e) (sym j.2) (can_be e c l ml))))
+                  | inr at ↦ subst₂ (AreTold d t s) i.2 j.2 (told_of i.0 j.0 i.1 j.1 (at i.0 i.1 (omega (arith, a, at_i, p), subst (CanBeConstant r e) (sym i.2) (can_be e c k mk), not_noted k nk i.0 i.2) j.0 j.1 (omega (arith, b, at_j, q), subst (CanBeConstant r e) (sym j.2) (can_be e c l ml), not_noted l nl j.0 j.2)))
                 ]
 
       -- the answer where pairs are asked that a solution has both of
-      pub asked_on_touched : IsNearLeaf d t s → (o : Option (ℕ × ℕ)) → IsOpenPairOr s (AreAllPast r s r.sums bases) o → IsQuestion d t s o
-      asked_on_touched near None past = leaf_is near touched
+      pub asked_on_touched : IsNearLeaf d t s → (o : Option (ℕ × ℕ)) → IsOpenPairOr s (AreAllPast r s (IsNotedIn d heads) r.sums bases) o → IsQuestion d t heads s o
+      asked_on_touched near None past = record { closed = near.closed; partition = near.partition; identities = near.identities; constants = touched }
         where
-          touched : (f : OpId) (k l : ℕ) → MayBeConstant d t (class_of s) f k → MayBeConstant d t (class_of s) f l → (both : AreTouched d t (class_of s) f k l) → IsLive d t s f both.columns both.solution → AreTold d t s k l
-          touched f k l mk ml both live =
+          touched : (f : OpId) (k l : ℕ) → MayBeConstant d t (class_of s) f k → MayBeConstant d t (class_of s) f l → (IsNotedSum d t heads f k → ⊥) → (IsNotedSum d t heads f l → ⊥) → (both : AreTouched d t (class_of s) f k l) → IsLive d t s f both.columns both.solution → AreTold d t s k l
+          touched f k l mk ml nk nl both live =
               let a = entry_of d t made s closed r reading f k mk.used in
-              subst (λ o. (mk : MayBeConstant d t (class_of s) o k) (ml : MayBeConstant d t (class_of s) o l) (both : AreTouched d t (class_of s) o k l) → IsLive d t s o both.columns both.solution → AreTold d t s k l) a.operator
-              (apart_where_touched past a.entry a.listed k l) mk ml both live
-      asked_on_touched near (Some p) h = pair_question (AreAllPast r s r.sums bases) p h
+              subst (λ o. (mk : MayBeConstant d t (class_of s) o k) (ml : MayBeConstant d t (class_of s) o l) (nk : IsNotedSum d t heads o k → ⊥) (nl : IsNotedSum d t heads o l → ⊥) (both : AreTouched d t (class_of s) o k l) → IsLive d t s o both.columns both.solution → AreTold d t s k l) a.operator
+              (apart_where_touched past a.entry a.listed k l) mk ml nk nl both live
+      asked_on_touched near (Some p) h = pair_question (AreAllPast r s (IsNotedIn d heads) r.sums bases) p h

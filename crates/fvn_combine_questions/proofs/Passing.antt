@@ -1,8 +1,8 @@
 -- What holds of the numbers so far.
-use Rattle.std.proofs.Common.{◌≡◌, ℕ, ◌+◌, ◌<◌, ◌≤◌, List, [], length, get_or, slice_get, sym, ap, ◌∙◌, subst, subst₂, inl, inr, arith, Some}
+use Rattle.std.proofs.Common.{◌≡◌, ℕ, ◌+◌, ◌<◌, ◌≤◌, List, [], length, get_or, slice_get, sym, ◌∙◌, subst, inl, inr, arith, Some}
 use Rattle.std.proofs.lemmas.Bool.{cases_lt}
 use Rattle.std.proofs.lemmas.List.{get_or_default}
-use Rattle.std.proofs.lemmas.Option.{slice_get_within, slice_get-get_or}
+use Rattle.std.proofs.lemmas.Option.{slice_get-get_or}
 use Rattle.fvn_base.proofs.Options.{Some-injective}
 use Rattle.fvn_lindio.specs.declared.system.Solution.{Solution}
 use Rattle.fvn_combine_leaves.specs.declared.reading.Sums.{Sums}

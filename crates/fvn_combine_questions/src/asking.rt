@@ -13,6 +13,7 @@ use fvn_combine_leaves::Reading;
 use fvn_combine_nodes::{State, Table};
 use fvn_lindio::Solution;
 use fvn_signature::Signature;
+use fvn_terms::OpId;
 
 /// Two nodes of which it is open whether they are in one class, and on which it rests what classes are
 /// bound to, whatever sums have in common; none where all that is left to ask is whether classes are one
@@ -57,20 +58,21 @@ pub fn question_on_all(
 }
 
 /// A question on two classes that may be constants of one operator, and that one of its minimal
-/// solutions has both of that may stand for a summand; none only where the state is a leaf.
+/// solutions has both of that may stand for a summand; none only where the state is a leaf. Of classes that are noted
+/// as sums by the operator nothing is asked: they are never constants of it.
 pub fn question_on_touched(
     sig: &Signature,
     table: &Table,
     state: &State,
     reading: &Reading,
+    heads: &[Option<OpId>],
     bases: &[Seq<Solution>],
 ) -> Option<(usize, usize)>
     requires near { IsNearLeaf sig.now table.now state.now }
     requires reading { IsReading sig.now table.now (class_of state.now) reading.now }
     requires bases { AreBases reading.now.sums bases.now }
-    ensures { IsQuestion sig.now table.now state.now result }
+    ensures { IsQuestion sig.now table.now heads.now state.now result }
 {
     table.recall_well_made();
-    let _sig = sig;
-    open_touched(state, reading, bases)
+    open_touched(sig, state, reading, heads, bases)
 }

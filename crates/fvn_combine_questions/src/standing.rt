@@ -1,9 +1,12 @@
-//! Which classes may be constants of an operator, and which have different heads.
-ghost use Rattle.std.specs.Prelude.{◌↔◌, ◌<◌, length, IsTrue};
+//! Which classes may be constants of an operator, which are noted as sums by it, and which have different heads.
+ghost use Rattle.std.specs.Prelude.{◌≡◌, ◌↔◌, ◌<◌, length, slice_index_or, None, IsTrue};
 ghost use Rattle.fvn_combine_leaves.specs.Users.{IsWholeSums, IsWhole, CanBeConstant, HaveHeads};
-ghost use Rattle.fvn_combine_questions.specs.inner.Touched.{HasOtherHead};
+ghost use Rattle.fvn_combine_questions.specs.inner.Touched.{IsNotedIn, HasOtherHead};
 
 use fvn_combine_leaves::{Reading, Sums, has_two_users, is_user};
+use fvn_combine_nodes::has_no_identity;
+use fvn_signature::Signature;
+use fvn_terms::OpId;
 
 // Whether class k may be a constant of the operator.
 pub(crate) fn may_be_constant(reading: &Reading, n: usize, sums: &Sums, k: usize) -> bool
@@ -18,6 +21,31 @@ pub(crate) fn may_be_constant(reading: &Reading, n: usize, sums: &Sums, k: usize
     match reading.heads.as_slice()[k] {
         None => has_two_users(reading.sums.as_slice(), n, k),
         Some(g) => g != sums.operator,
+    }
+}
+
+// The operator that is noted as what heads class k.
+fn noted_head(heads: &[Option<OpId>], k: usize) -> Option<OpId>
+    ensures { result ≡ slice_index_or heads.now k None }
+{
+    match heads.get(k) {
+        None => None,
+        Some(head) => *head,
+    }
+}
+
+// Whether the operator, which has an identity, is noted as what heads class k.
+pub(crate) fn is_noted_sum(sig: &Signature, heads: &[Option<OpId>], f: OpId, k: usize) -> bool
+    ensures { IsTrue result → IsNotedIn sig.now heads.now f k }
+{
+    match noted_head(heads, k) {
+        None => false,
+        Some(g) => {
+            if g != f {
+                return false;
+            }
+            !has_no_identity(sig.axioms(f))
+        }
     }
 }
 

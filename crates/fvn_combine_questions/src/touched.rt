@@ -2,7 +2,8 @@
 //! solution has both of.
 //!
 //! A solution that is taken stands for one summand. Where two classes that it has are single summands and are known to
-//! differ, it is never taken, so that nothing is asked of it.
+//! differ, it is never taken, so that nothing is asked of it; nor is anything asked of classes that are noted as sums by the
+//! operator, which are never constants of it.
 ghost use Rattle.std.specs.Prelude.{◌≡◌, ◌↔◌, ◌<◌, length, slice_index, IsTrue, IsFalse};
 ghost use Rattle.fvn_combine_nodes.specs.States.{IsNaming, IsOpen};
 ghost use Rattle.fvn_combine_questions.specs.inner.Past.{IsOpenPairOr};
@@ -10,6 +11,7 @@ ghost use Rattle.fvn_combine_leaves.specs.Users.{IsWholeSums, IsWhole};
 ghost use Rattle.fvn_combine_questions.specs.inner.Touched.{
   AreWide,
   AreAllWide,
+  IsNotedIn,
   StandsIn,
   IsSingleIn,
   AreToldIn,
@@ -22,11 +24,13 @@ ghost use Rattle.fvn_combine_questions.specs.inner.Touched.{
 };
 
 use crate::backwards::backwards;
-use crate::standing::{has_other_head, have_two_heads, may_be_constant};
+use crate::standing::{has_other_head, have_two_heads, is_noted_sum, may_be_constant};
 use fvn_base::Seq;
 use fvn_combine_leaves::{Reading, Sums, is_user};
 use fvn_combine_nodes::State;
 use fvn_lindio::Solution;
+use fvn_signature::Signature;
+use fvn_terms::OpId;
 
 // Whether the solution is above zero in column i.
 fn has_column(v: &Solution, i: usize) -> bool
@@ -36,16 +40,27 @@ fn has_column(v: &Solution, i: usize) -> bool
     v.parts.as_slice()[i] > 0
 }
 
-// Whether the solution has column i, whose class may be a constant of the operator.
-fn stands(reading: &Reading, n: usize, sums: &Sums, v: &Solution, i: usize) -> bool
+// Whether the solution has column i, whose class may be a constant of the operator, and is not noted as a sum by it.
+fn stands(
+    sig: &Signature,
+    reading: &Reading,
+    heads: &[Option<OpId>],
+    n: usize,
+    sums: &Sums,
+    v: &Solution,
+    i: usize,
+) -> bool
     requires whole { IsWhole n reading.now }
     requires sums { IsWholeSums n sums.now }
     requires wide { length v.now.parts ≡ length sums.now.columns }
     requires within { i < length sums.now.columns }
-    ensures { IsTrue result ↔ StandsIn reading.now sums.now v.now i }
+    ensures { StandsIn reading.now sums.now (IsNotedIn sig.now heads.now) v.now i → IsTrue result }
 {
     let columns = sums.columns.as_slice();
     if !has_column(v, i) {
+        return false;
+    }
+    if is_noted_sum(sig, heads, sums.operator, columns[i]) {
         return false;
     }
     may_be_constant(reading, n, sums, columns[i])
@@ -129,8 +144,10 @@ fn is_dead(state: &State, reading: &Reading, sums: &Sums, v: &Solution) -> bool
 
 // A question whether the class of column i is another one that the solution has and that may be a constant.
 fn open_column(
+    sig: &Signature,
     state: &State,
     reading: &Reading,
+    heads: &[Option<OpId>],
     sums: &Sums,
     v: &Solution,
     i: usize,
@@ -141,12 +158,13 @@ fn open_column(
     requires wide { length v.now.parts ≡ length sums.now.columns }
     requires within { i < length sums.now.columns }
     ensures { IsOpenPairOr state.now
-        (ArePastColumns reading.now sums.now state.now v.now i) result }
+        (ArePastColumns reading.now sums.now state.now (IsNotedIn sig.now heads.now) v.now i)
+        result }
 {
     let n = state.names.len();
     let columns = sums.columns.as_slice();
     for j in 0..columns.len() {
-        if !stands(reading, n, sums, v, j) {
+        if !stands(sig, reading, heads, n, sums, v, j) {
             continue;
         }
         if are_told(state, reading, sums, i, j) {
@@ -160,8 +178,10 @@ fn open_column(
 // A question whether two classes are one that the solution has and that may be constants of the operator: the last
 // columns first.
 fn open_solution(
+    sig: &Signature,
     state: &State,
     reading: &Reading,
+    heads: &[Option<OpId>],
     sums: &Sums,
     v: &Solution,
 ) -> Option<(usize, usize)>
@@ -170,7 +190,8 @@ fn open_solution(
     requires sums { IsWholeSums (length state.now.names) sums.now }
     requires wide { length v.now.parts ≡ length sums.now.columns }
     ensures { IsOpenPairOr state.now
-        (IsPastSolution reading.now sums.now state.now v.now) result }
+        (IsPastSolution reading.now sums.now state.now (IsNotedIn sig.now heads.now) v.now)
+        result }
 {
     if is_dead(state, reading, sums, v) {
         return None;
@@ -179,10 +200,10 @@ fn open_solution(
     let count = sums.columns.len();
     for step in 0..count {
         let i = backwards(count, step);
-        if !stands(reading, n, sums, v, i) {
+        if !stands(sig, reading, heads, n, sums, v, i) {
             continue;
         }
-        match open_column(state, reading, sums, v, i) {
+        match open_column(sig, state, reading, heads, sums, v, i) {
             None => {}
             Some(pair) => return Some(pair),
         }
@@ -192,8 +213,10 @@ fn open_solution(
 
 // The same of all solutions of the operator.
 fn open_solutions(
+    sig: &Signature,
     state: &State,
     reading: &Reading,
+    heads: &[Option<OpId>],
     sums: &Sums,
     basis: &[Solution],
 ) -> Option<(usize, usize)>
@@ -202,10 +225,11 @@ fn open_solutions(
     requires sums { IsWholeSums (length state.now.names) sums.now }
     requires wide { AreWide (length sums.now.columns) basis.now }
     ensures { IsOpenPairOr state.now
-        (ArePastTouched reading.now sums.now state.now basis.now) result }
+        (ArePastTouched reading.now sums.now state.now (IsNotedIn sig.now heads.now) basis.now)
+        result }
 {
     for v in basis {
-        match open_solution(state, reading, sums, v) {
+        match open_solution(sig, state, reading, heads, sums, v) {
             None => {}
             Some(pair) => return Some(pair),
         }
@@ -216,8 +240,10 @@ fn open_solutions(
 // A question whether two classes are one that may be constants of one operator, and that one of its
 // solutions has both of: the last operators first.
 pub(crate) fn open_touched(
+    sig: &Signature,
     state: &State,
     reading: &Reading,
+    heads: &[Option<OpId>],
     bases: &[Seq<Solution>],
 ) -> Option<(usize, usize)>
     requires naming { IsNaming state.now }
@@ -225,12 +251,13 @@ pub(crate) fn open_touched(
     requires as_many { length bases.now ≡ length reading.now.sums }
     requires wide { AreAllWide reading.now.sums bases.now }
     ensures { IsOpenPairOr state.now
-        (AreAllPast reading.now state.now reading.now.sums bases.now) result }
+        (AreAllPast reading.now state.now (IsNotedIn sig.now heads.now) reading.now.sums bases.now)
+        result }
 {
     let sums = reading.sums.as_slice();
     for step in 0..sums.len() {
         let i = backwards(sums.len(), step);
-        match open_solutions(state, reading, &sums[i], bases[i].as_slice()) {
+        match open_solutions(sig, state, reading, heads, &sums[i], bases[i].as_slice()) {
             None => {}
             Some(pair) => return Some(pair),
         }

@@ -6,11 +6,10 @@ use Rattle.fvn_terms.specs.declared.plain.SortId.{SortId}
 use Rattle.fvn_terms.specs.declared.declarations.Declarations.{Declarations}
 use Rattle.fvn_terms.specs.Sorts.{HasSort}
 use Rattle.fvn_combine_nodes.specs.Table.{NodeTable, IsOver, term_at}
-use Rattle.fvn_combine_nodes.specs.Classes.{AreTogether}
 use Rattle.fvn_combine_nodes.specs.States.{class_of}
 use Rattle.fvn_combine_nodes.specs.declared.state.State.{State}
 use Rattle.fvn_combine_nodes.specs.declared.table.Node.TheVariants.{Var}
-use Rattle.fvn_combine_loose.specs.Loose.{height_of, IsLooseClass, AreHeights}
+use Rattle.fvn_combine_loose.specs.Loose.{height_of, AreMadeAlike, IsLooseClass, AreHeights}
 
 -- node i is marked
 abbrev pub IsMarked : List Bool → ℕ → Type 0
@@ -41,33 +40,31 @@ module _ (t : NodeTable) where
   abbrev pub IsVariable : ℕ → Type 0
   IsVariable i = (f : OpId) (ks : List ℕ) → IsOver t.nodes i f ks → ⊥
 
-  module _ (s : State) where
-    -- where an operator heads node i, it is g over the classes of ls
-    abbrev pub AreOver : ℕ → OpId → List ℕ → Type 0
-    AreOver i g ls = (f : OpId) (ks : List ℕ) → IsOver t.nodes i f ks → (f ≡ g) × AreTogether (class_of s) ks ls
-
-    -- an operator heads node m, in the class of node i, and what heads node i is it over the same classes
-    pub record IsLike (m i : ℕ) : Type 0 where
-      pub operator : OpId
-      pub arguments : List ℕ
-      pub over : IsOver t.nodes m operator arguments
-      pub of : class_of s m ≡ class_of s i
-      pub alike : AreOver i operator arguments
-
-    -- node i is like the node that is noted to head its class
-    pub record IsNoted (heads : List (Option ℕ)) (i : ℕ) : Type 0 where
-      pub member : ℕ
-      pub noted : slice_index_or heads (class_of s i) None ≡ Some member
-      pub like : IsLike member i
-
-    module _ (marks : List Bool) (heights : List ℕ) (z : ℕ) where
-      -- what is checked of node i
-      pub record IsBuilt (i : ℕ) : Type 0 where
-        pub raised : AreRaised t s heights i
-        pub bottom : class_of s i ≡ class_of s z → IsVariable i
-        pub marked : class_of s i ≢ class_of s z → 0 < height_of s heights i → IsMarked marks i
+  -- what is checked of node i
+  pub record IsBuilt (s : State) (marks : List Bool) (heights : List ℕ) (z i : ℕ) : Type 0 where
+    pub raised : AreRaised t s heights i
+    pub bottom : class_of s i ≡ class_of s z → IsVariable i
+    pub marked : class_of s i ≢ class_of s z → 0 < height_of s heights i → IsMarked marks i
 
 module _ (d : Declarations) (t : NodeTable) (s : State) where
+  -- where an operator heads node i, it is g over arguments that are made alike ls
+  abbrev pub AreOver : ℕ → OpId → List ℕ → Type 0
+  AreOver i g ls = (f : OpId) (ks : List ℕ) → IsOver t.nodes i f ks → (f ≡ g) × AreMadeAlike d (class_of s) f ks ls
+
+  -- an operator heads node m, in the class of node i, and what heads node i is it over arguments that are made alike
+  pub record IsLike (m i : ℕ) : Type 0 where
+    pub operator : OpId
+    pub arguments : List ℕ
+    pub over : IsOver t.nodes m operator arguments
+    pub of : class_of s m ≡ class_of s i
+    pub alike : AreOver i operator arguments
+
+  -- node i is like the node that is noted to head its class
+  pub record IsNoted (heads : List (Option ℕ)) (i : ℕ) : Type 0 where
+    pub member : ℕ
+    pub noted : slice_index_or heads (class_of s i) None ≡ Some member
+    pub like : IsLike member i
+
   -- where an operator heads node j, in the class of node i, its term has the sort
   abbrev pub IsOfSort : ℕ → SortId → ℕ → Type 0
   IsOfSort i sort j = (f : OpId) (ks : List ℕ) → IsOver t.nodes j f ks → class_of s i ≡ class_of s j → HasSort d (term_at t.nodes j) sort
@@ -78,7 +75,7 @@ module _ (d : Declarations) (t : NodeTable) (s : State) where
 
   -- node i is like the node that is noted to head its class, and where it is a variable, what operators head there has its sort
   pub record IsFine (heads : List (Option ℕ)) (i : ℕ) : Type 0 where
-    pub noted : IsNoted t s heads i
+    pub noted : IsNoted heads i
     pub sorted : (x : Variable) → slice_get t.nodes i ≡ Some (Var x) → AreOfSort i x.sort
 
   -- so is each marked node

@@ -1,6 +1,9 @@
 -- Columns that a minimal solution has, solutions that stand for no summand, and questions on their classes that are past.
-use Rattle.std.specs.Prelude.{◌≡◌, ◌≢◌, ◌⊎◌, ℕ, ◌<◌, List, [], length, slice_get, slice_index, slice_index_or, Some, All}
+use Rattle.std.specs.Prelude.{◌≡◌, ◌≢◌, ◌⊎◌, ℕ, ◌<◌, List, [], length, slice_get, slice_index, slice_index_or, Option, Some, None, All}
 use Rattle.fvn_terms.specs.declared.plain.OpId.{OpId}
+use Rattle.fvn_terms.specs.declared.declarations.Declarations.{Declarations}
+use Rattle.fvn_terms.specs.Signature.{axioms}
+use Rattle.fvn_flat.specs.Partitions.{HasNoIdentity}
 use Rattle.fvn_lindio.specs.declared.system.Solution.{Solution}
 use Rattle.fvn_combine_nodes.specs.States.{IsOpen}
 use Rattle.fvn_combine_nodes.specs.declared.state.State.{State}
@@ -20,11 +23,15 @@ AreAllWide sums bases = (i : ℕ) (e : Sums) → slice_get sums i ≡ Some e →
 abbrev pub HasOtherHead : Reading → Sums → ℕ → Type 0
 HasOtherHead r e k = (g : OpId) × (head_of r k ≡ Some g) × (g ≢ e.operator)
 
-module _ (r : Reading) (e : Sums) where
-  -- the solution has column i, whose class may be a constant
-  abbrev pub StandsIn : Solution → ℕ → Type 0
-  StandsIn v i = (0 < slice_index v.parts i) × CanBeConstant r e (slice_index e.columns i)
+-- f, which has an identity, is noted as what heads class k
+abbrev pub IsNotedIn : Declarations → List (Option OpId) → OpId → ℕ → Type 0
+IsNotedIn d heads f k = (slice_index_or heads k None ≡ Some f) × (HasNoIdentity (axioms d f) → ⊥)
 
+-- the solution has column i, whose class may be a constant, and is not noted as a sum by the operator
+abbrev pub StandsIn : Reading → Sums → (noted : OpId → ℕ → Type 0) → Solution → ℕ → Type 0
+StandsIn r e noted v i = (0 < slice_index v.parts i) × CanBeConstant r e (slice_index e.columns i) × (noted e.operator (slice_index e.columns i) → ⊥)
+
+module _ (r : Reading) (e : Sums) where
   -- the solution has column i, whose class is used and has another head
   pub record IsSingleIn (v : Solution) (i : ℕ) : Type 0 where
     pub some : 0 < slice_index v.parts i
@@ -50,18 +57,19 @@ module _ (r : Reading) (e : Sums) where
       pub within : column < length e.columns
       pub dead : IsDeadAt v column
 
-    -- it is not open whether the class of column i is that of another column which the solution has and whose class may be a constant, where no heads tell them apart
-    abbrev pub ArePastColumns : Solution → ℕ → Type 0
-    ArePastColumns v i = (j : ℕ) → j < length e.columns → StandsIn v j → AreToldIn i j
+    module _ (noted : OpId → ℕ → Type 0) where
+      -- it is not open whether the class of column i is that of another column which the solution has and whose class may be a constant, where no heads tell them apart
+      abbrev pub ArePastColumns : Solution → ℕ → Type 0
+      ArePastColumns v i = (j : ℕ) → j < length e.columns → StandsIn r e noted v j → AreToldIn i j
 
-    -- so it is with all columns which the solution has, or it stands for no summand
-    abbrev pub IsPastSolution : Solution → Type 0
-    IsPastSolution v = IsDead v ⊎ ((i : ℕ) → i < length e.columns → StandsIn v i → ArePastColumns v i)
+      -- so it is with all columns which the solution has, or it stands for no summand
+      abbrev pub IsPastSolution : Solution → Type 0
+      IsPastSolution v = IsDead v ⊎ ((i : ℕ) → i < length e.columns → StandsIn r e noted v i → ArePastColumns v i)
 
-    -- and with all solutions
-    abbrev pub ArePastTouched : List Solution → Type 0
-    ArePastTouched basis = All IsPastSolution basis
+      -- and with all solutions
+      abbrev pub ArePastTouched : List Solution → Type 0
+      ArePastTouched basis = All IsPastSolution basis
 
 -- of each operator
-abbrev pub AreAllPast : Reading → State → List Sums → List (List Solution) → Type 0
-AreAllPast r s sums bases = (i : ℕ) (e : Sums) → slice_get sums i ≡ Some e → ArePastTouched r e s (slice_index_or bases i [])
+abbrev pub AreAllPast : Reading → State → (noted : OpId → ℕ → Type 0) → List Sums → List (List Solution) → Type 0
+AreAllPast r s noted sums bases = (i : ℕ) (e : Sums) → slice_get sums i ≡ Some e → ArePastTouched r e s noted (slice_index_or bases i [])

@@ -5,11 +5,11 @@ use Rattle.fvn_combine_candidates.proofs.Systems.{make_systems}
 use Rattle.fvn_combine_candidates.proofs.laws.lists_cover.Goals as goal
 
 pub returns : goal.returns
-returns c d good problem is_problem t made table s leaf r reading bases are sorted shared are_shared u unifier admits keeps =
+returns c d good problem is_problem t made table s heads leaf r reading bases are sorted shared are_shared u unifier admits obey_heads keeps =
     let y = systems_of r bases in
     let systems = make_systems d t (class_of s) r reading bases are in
     let told = c.readings_tell.ensures d t s leaf.closed r reading in
-    let covering = c.sorted_leaves_cover.ensures d good problem is_problem t made table s leaf told y systems u unifier admits in
+    let covering = c.sorted_leaves_cover.ensures d good problem is_problem t made table s heads leaf told y systems u unifier admits obey_heads in
     let l = c.covering_choices_are_listed.ensures d problem t made s leaf.closed r reading sorted shared are_shared y u covering.0 covering.1 (λ e. covering.2 (keeps e)) in (
       l.0,
       l.1,

@@ -1,7 +1,7 @@
 -- One more column.
 use Rattle.std.proofs.Common.{length, sym, ◌∙◌, inl, inr, arith}
 use Rattle.std.proofs.lemmas.Bool.{false≢true}
-use Rattle.fvn_combine_questions.specs.inner.Touched.{StandsIn, ArePastColumns}
+use Rattle.fvn_combine_questions.specs.inner.Touched.{IsNotedIn, StandsIn, ArePastColumns}
 use Rattle.fvn_combine_questions.proofs.Passing.{more_above}
 use Rattle.fvn_combine_questions.proofs.touched.open_solution.Goals as goal
 
@@ -9,14 +9,14 @@ pub loop-step-preserved-then-not-stands : goal.loop-step-preserved-then-not-stan
 loop-step-preserved-then-not-stands c =
     let r = c.args.reading.now in
     let e = c.args.sums.now in
-    more_above (λ i. StandsIn r e c.args.v.now i → ArePastColumns r e c.args.state.now c.args.v.now i) (length e.columns) c.loop-step.step c.backwards-i.result (c.backwards-i.ensures ∙ c.len-count.ensures) c.loop-step.invariant
-    (λ own. absurd (false≢true (sym c.if-not-stands.true ∙ c.stands.ensures.1 own)))
+    more_above (λ i. StandsIn r e (IsNotedIn c.args.sig.now c.args.heads.now) c.args.v.now i → ArePastColumns r e c.args.state.now (IsNotedIn c.args.sig.now c.args.heads.now) c.args.v.now i) (length e.columns) c.loop-step.step c.backwards-i.result (c.backwards-i.ensures ∙ c.len-count.ensures) c.loop-step.invariant
+    (λ own. absurd (false≢true (sym c.if-not-stands.true ∙ c.stands.ensures own)))
 
 pub loop-step-preserved : goal.loop-step-preserved
 loop-step-preserved c =
     let r = c.args.reading.now in
     let e = c.args.sums.now in
-    more_above (λ i. StandsIn r e c.args.v.now i → ArePastColumns r e c.args.state.now c.args.v.now i) (length e.columns) c.loop-step.step c.backwards-i.result (c.backwards-i.ensures ∙ c.len-count.ensures) c.loop-step.invariant
+    more_above (λ i. StandsIn r e (IsNotedIn c.args.sig.now c.args.heads.now) c.args.v.now i → ArePastColumns r e c.args.state.now (IsNotedIn c.args.sig.now c.args.heads.now) c.args.v.now i) (length e.columns) c.loop-step.step c.backwards-i.result (c.backwards-i.ensures ∙ c.len-count.ensures) c.loop-step.invariant
     (λ own. c.in-None.ensures)
 
 pub returns-then-is_dead : goal.returns-then-is_dead
