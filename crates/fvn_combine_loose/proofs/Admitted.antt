@@ -21,7 +21,7 @@ use Rattle.fvn_combine_loose.proofs.Loosened.{loosened, node_value, together_val
 
 module _ {d : Declarations} {problem : Problem} {t : NodeTable} {s : State} {z : ℕ} {heights : List ℕ} {u : Substitution} (g : Setting d problem t s z heights u) where
   abbrev height : ℕ → ℕ
-  height = height_of d t s z heights
+  height = height_of s heights
 
   new_partitions : Partitions d t (loosened g)
   new_partitions = unifier_partitions d g.good.fits problem g.kinded t g.made g.table (loosened g) (loosened_unifies g)

@@ -31,7 +31,7 @@ use Rattle.fvn_combine_loose.proofs.Remade.{same_or_other, remade, remade_low_is
 
 module _ {d : Declarations} {problem : Problem} {t : NodeTable} {s : State} {z : ℕ} {heights : List ℕ} {u : Substitution} (g : Setting d problem t s z heights u) where
   abbrev height : ℕ → ℕ
-  height = height_of d t s z heights
+  height = height_of s heights
 
   -- the new variable goes to the value of the loose class
   abbrev pub after : Substitution

@@ -1,5 +1,5 @@
 -- What is checked of each node makes a class loose.
-use Rattle.std.proofs.Common.{◌≡◌, ◌≢◌, ℕ, zero, suc, ◌<◌, ◌≤◌, List, ◌+◌, length, map, get_or, refl, sym, ap, ◌∙◌, subst, inl, inr, arith, All, Option, Some, None, slice_get}
+use Rattle.std.proofs.Common.{◌≡◌, ◌≢◌, ℕ, zero, suc, ◌<◌, ◌≤◌, Bool, List, [], ◌∷◌, ◌+◌, length, map, get_or, refl, sym, ap, ◌∙◌, subst, inl, inr, arith, Option, Some, None}
 use Rattle.std.specs.Prelude.{Any, max}
 use Rattle.std.proofs.lemmas.List.{get_or-map, length-map, same_lists, get_or_default}
 use Rattle.std.proofs.lemmas.Bool.{cases_eq}
@@ -12,8 +12,8 @@ use Rattle.fvn_combine_nodes.specs.States.{class_of}
 use Rattle.fvn_combine_nodes.specs.declared.state.State.{State}
 use Rattle.fvn_combine_nodes.specs.declared.table.Node.TheVariants.{App}
 use Rattle.fvn_combine_nodes.proofs.Nodes.{over_unique}
-use Rattle.fvn_combine_loose.specs.Loose.{IsHeaded, IsLoose}
-use Rattle.fvn_combine_loose.specs.inner.Checks.{height_in, IsHighest, IsRaised, IsNoted, IsBuilt, IsSorted}
+use Rattle.fvn_combine_loose.specs.Loose.{height_of, AreMadeAlike, IsLoose}
+use Rattle.fvn_combine_loose.specs.inner.Checks.{IsHighest, IsRaised, IsNoted, IsBuilt, AreFine}
 
 -- what is not zero
 pub positive : (n : ℕ) → n ≢ 0 → 0 < n
@@ -31,6 +31,16 @@ together_from class ks ls n same =
     get_or-map class ks i 0 d l ∙ same i l ∙ sym (get_or-map class ls i 0 d r)
     )
 
+-- what is made alike a third one
+alike_joined : (d : Declarations) (class : ℕ → ℕ) (f : OpId) (ks ls ms : List ℕ) → AreMadeAlike d class f ks ms → AreMadeAlike d class f ls ms → AreMadeAlike d class f ks ls
+alike_joined d class f ks ls ms (inl a) (inl b) = inl (a ∙ sym b)
+alike_joined d class f ks ls ms (inl a) (inr w) = inr (w.0, record { first = w.1.second; second = w.1.first; left = a ∙ w.1.right; right = w.1.left })
+alike_joined d class f ks ls ms (inr w) (inl b) = inr (w.0, record { first = w.1.first; second = w.1.second; left = w.1.left; right = b ∙ w.1.right })
+alike_joined d class f ks ls ms (inr w) (inr v) = inl (w.1.left ∙ turned (sym w.1.right ∙ v.1.right) ∙ sym v.1.left)
+  where
+    turned : {m n p q : ℕ} → m ∷ n ∷ [] ≡ p ∷ q ∷ [] → n ∷ m ∷ [] ≡ q ∷ p ∷ []
+    turned e = cc
+
 -- what holds of the numbers below one, and of it
 pub one_more : (P : ℕ → Type 0) (i : ℕ) → ((k : ℕ) → k < i → P k) → P i → (k : ℕ) → k < i + 1 → P k
 one_more P i h here k l = elim (cases_eq k i) [
@@ -41,18 +51,18 @@ one_more P i h here k l = elim (cases_eq k i) [
 module _ (s : State) (heights : List ℕ) where
   -- the greatest height of the first of these nodes
   pub record IsHighestSoFar (ks : List ℕ) (n high : ℕ) : Type 0 where
-    pub above : (p k : ℕ) → p < n → height_in s heights (get_or ks p k) ≤ high
-    pub reached : 0 < high → Any (λ k. 0 < height_in s heights k) ks
+    pub above : (p k : ℕ) → p < n → height_of s heights (get_or ks p k) ≤ high
+    pub reached : 0 < high → Any (λ k. 0 < height_of s heights k) ks
 
   pub highest_none : (ks : List ℕ) → IsHighestSoFar ks 0 0
   highest_none ks = record { above = λ p k l. absurd (omega (arith, l)); reached = λ l. absurd (omega (arith, l)) }
 
   -- one node more
-  pub highest_more : (ks : List ℕ) (n high own : ℕ) → n < length ks → own ≡ height_in s heights (get_or ks n 0) → IsHighestSoFar ks n high → IsHighestSoFar ks (n + 1) (max high own)
+  pub highest_more : (ks : List ℕ) (n high own : ℕ) → n < length ks → own ≡ height_of s heights (get_or ks n 0) → IsHighestSoFar ks n high → IsHighestSoFar ks (n + 1) (max high own)
   highest_more ks n high own l is h = record {
     above = λ p k m. elim (cases_eq p n) [
       | inl same ↦
-          let e : height_in s heights (get_or ks p k) ≡ own = ap (λ q. height_in s heights (get_or ks q k)) same ∙ ap (height_in s heights) (get_or_default ks n k 0 l) ∙ sym is in
+          let e : height_of s heights (get_or ks p k) ≡ own = ap (λ q. height_of s heights (get_or ks q k)) same ∙ ap (height_of s heights) (get_or_default ks n k 0 l) ∙ sym is in
           omega (arith, e)
       | inr other ↦ let u = h.above p k (omega (arith, m, other)) in omega (arith, u)
     ];
@@ -67,30 +77,33 @@ module _ (s : State) (heights : List ℕ) where
   highest_all ks n high l h = record { above = λ p k m. h.above p k (omega (arith, m, l)); reached = h.reached }
 
   -- where the greatest height is none, no class has one
-  pub raised_none : (i : ℕ) (ks : List ℕ) (high : ℕ) → IsHighest s heights ks high → high ≡ 0 → height_in s heights i ≡ 0 → IsRaised s heights i ks
+  pub raised_none : (i : ℕ) (ks : List ℕ) (high : ℕ) → IsHighest s heights ks high → high ≡ 0 → height_of s heights i ≡ 0 → IsRaised s heights i ks
   raised_none i ks high h none own = record {
     upward = λ a. absurd (none_there a);
     lower = λ k d l stands. absurd (let u = h.above k d l in omega (arith, u, stands, none));
     over = λ stands. absurd (omega (arith, stands, own));
   }
     where
-      none_there : Any (λ k. 0 < height_in s heights k) ks → ⊥
+      none_there : Any (λ k. 0 < height_of s heights k) ks → ⊥
       none_there a =
           let u = h.above a.0 a.1 a.2 in
-          let stands : 0 < height_in s heights (get_or ks a.0 a.1) = subst (λ k. 0 < height_in s heights k) (sym a.3) a.4 in
+          let stands : 0 < height_of s heights (get_or ks a.0 a.1) = subst (λ k. 0 < height_of s heights k) (sym a.3) a.4 in
           omega (arith, u, stands, none)
 
   -- above the greatest height is above all
-  pub raised_above : (i : ℕ) (ks : List ℕ) (high : ℕ) → IsHighest s heights ks high → high ≢ 0 → high < height_in s heights i → IsRaised s heights i ks
+  pub raised_above : (i : ℕ) (ks : List ℕ) (high : ℕ) → IsHighest s heights ks high → high ≢ 0 → high < height_of s heights i → IsRaised s heights i ks
   raised_above i ks high h some own = record {
     upward = λ a. omega (arith, own);
     lower = λ k d l stands. let u = h.above k d l in omega (arith, u, own);
     over = λ stands. h.reached (positive high some);
   }
 
-module _ (d : Declarations) (t : NodeTable) (s : State) (heads : List (Option ℕ)) (heights : List ℕ) (z : ℕ) where
-  module _ (built : (i : ℕ) → i < length t.nodes → IsBuilt t s heads heights z i) where
-    at_over : (i : ℕ) (f : OpId) (ks : List ℕ) → IsOver t.nodes i f ks → IsBuilt t s heads heights z i
+module _ (d : Declarations) (t : NodeTable) (s : State) (marks : List Bool) (heights : List ℕ) (z : ℕ) where
+  module _ (fine : AreFine d t s marks) (built : (i : ℕ) → i < length t.nodes → IsBuilt t s marks heights z i) where
+    abbrev heads : List (Option ℕ)
+    heads = fine.heads
+
+    at_over : (i : ℕ) (f : OpId) (ks : List ℕ) → IsOver t.nodes i f ks → IsBuilt t s marks heights z i
     at_over i f ks is = built i (slice_get_within t.nodes i (App f ks) is)
 
     raised_over : (i : ℕ) (f : OpId) (ks : List ℕ) → IsOver t.nodes i f ks → IsRaised s heights i ks
@@ -100,35 +113,39 @@ module _ (d : Declarations) (t : NodeTable) (s : State) (heads : List (Option �
     elsewhere : (i : ℕ) (f : OpId) (ks : List ℕ) → IsOver t.nodes i f ks → class_of s i ≢ class_of s z
     elsewhere i f ks is e = (at_over i f ks is).bottom e f ks is
 
-    noted_over : (i : ℕ) (f : OpId) (ks : List ℕ) → IsOver t.nodes i f ks → 0 < height_in s heights i → IsNoted t s heads i
-    noted_over i f ks is stands = (at_over i f ks is).noted (elsewhere i f ks is) stands
+    noted_over : (i : ℕ) (f : OpId) (ks : List ℕ) → IsOver t.nodes i f ks → 0 < height_of s heights i → IsNoted d t s heads i
+    noted_over i f ks is stands = (fine.each i ((at_over i f ks is).marked (elsewhere i f ks is) stands)).noted
 
     -- what is like one node is alike
-    same_way : (i j : ℕ) (f g : OpId) (ks ls : List ℕ) → IsOver t.nodes i f ks → IsOver t.nodes j g ls → class_of s i ≡ class_of s j → IsNoted t s heads i → IsNoted t s heads j → (f ≡ g) × AreTogether (class_of s) ks ls
+    same_way : (i j : ℕ) (f g : OpId) (ks ls : List ℕ) → IsOver t.nodes i f ks → IsOver t.nodes j g ls → class_of s i ≡ class_of s j → IsNoted d t s heads i → IsNoted d t s heads j → (f ≡ g) × AreMadeAlike d (class_of s) f ks ls
     same_way i j f g ks ls a b e p q =
         let one : p.member ≡ q.member = some_same (sym p.noted ∙ ap (λ c. get_or heads c None) e ∙ q.noted) in
         let u = over_unique t.nodes p.member p.like.operator q.like.operator p.like.arguments q.like.arguments p.like.over (subst (λ m. IsOver t.nodes m q.like.operator q.like.arguments) (sym one) q.like.over) in
         let l = p.like.alike f ks a in
         let r = q.like.alike g ls b in
-        (l.0 ∙ u.0 ∙ sym r.0, l.1 ∙ ap (map (class_of s)) u.1 ∙ sym r.1)
+        let one_operator : f ≡ g = l.0 ∙ u.0 ∙ sym r.0 in
+        let of_f : AreMadeAlike d (class_of s) f ls q.like.arguments = subst (λ o. AreMadeAlike d (class_of s) o ls q.like.arguments) (sym one_operator) r.1 in
+        let both = subst (AreMadeAlike d (class_of s) f ls) (sym u.1) of_f in
+        (one_operator, alike_joined d (class_of s) f ks ls p.like.arguments l.1 both)
       where
         some_same : {m n : ℕ} → Some m ≡ Some n → m ≡ n
         some_same e = cc
 
   -- so z's class is loose
-  pub loose_from : z < length t.nodes → 0 < height_in s heights z → ((i : ℕ) → i < length t.nodes → IsBuilt t s heads heights z i) → ((i : ℕ) → i < length t.nodes → IsSorted d t s heights z i) → IsLoose d t s z heights
-  loose_from within bottom built sorted = record {
+  pub loose_from : AreFine d t s marks → z < length t.nodes → 0 < height_of s heights z → ((i : ℕ) → i < length t.nodes → IsBuilt t s marks heights z i) → IsLoose d t s z heights
+  loose_from fine within stands built = record {
     within = within;
-    bottom = bottom;
-    open_class = λ h. elsewhere built h.member h.operator h.arguments h.over h.of;
-    upward = λ i f ks is. (raised_over built i f ks is).upward;
-    lower = λ i f ks is. (raised_over built i f ks is).lower;
-    over = λ i f ks is. (raised_over built i f ks is).over;
+    stands = stands;
+    open_class = λ h. elsewhere fine built h.member h.operator h.arguments h.over h.of;
+    upward = λ i f ks is. (raised_over fine built i f ks is).upward;
+    lower = λ i f ks is. (raised_over fine built i f ks is).lower;
+    over = λ i f ks is. (raised_over fine built i f ks is).over;
     headed = λ i l stands other.
-        let n = (built i l).noted other stands in
+        let n = (fine.each i ((built i l).marked other stands)).noted in
         record { member = n.member; operator = n.like.operator; arguments = n.like.arguments; over = n.like.over; of = n.like.of };
     alike = λ i j f g ks ls a b e stands.
-        same_way built i j f g ks ls a b e (noted_over built i f ks a stands) (noted_over built j g ls b (subst (λ c. 0 < get_or heights c 0) e stands));
+        same_way fine built i j f g ks ls a b e (noted_over fine built i f ks a stands) (noted_over fine built j g ls b (subst (λ c. 0 < get_or heights c 0) e stands));
     sorts = λ i j x f ks is over e stands.
-        sorted i (slice_get_within t.nodes i _ is) x is (λ same. elsewhere built j f ks over (sym e ∙ same)) (subst (λ c. 0 < get_or heights c 0) (sym e) stands) j (slice_get_within t.nodes j _ over) f ks over e;
+        let mark = (built i (slice_get_within t.nodes i _ is)).marked (λ same. elsewhere fine built j f ks over (sym e ∙ same)) (subst (λ c. 0 < get_or heights c 0) (sym e) stands) in
+        (fine.each i mark).sorted x is j (slice_get_within t.nodes j _ over) f ks over e;
   }

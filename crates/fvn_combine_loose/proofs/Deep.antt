@@ -22,11 +22,11 @@ use Rattle.fvn_combine_loose.proofs.Setting.{Setting, argument_within, argument_
 pub record NodeUpTo (d : Declarations) (t : NodeTable) (s : State) (z : ℕ) (heights : List ℕ) (x : Variable) (h : ℕ) : Type 0 where
   pub number : ℕ
   pub is : slice_get t.nodes number ≡ Some (Var x)
-  pub up_to : height_of d t s z heights number ≤ h
+  pub up_to : height_of s heights number ≤ h
 
 module _ {d : Declarations} {problem : Problem} {t : NodeTable} {s : State} {z : ℕ} {heights : List ℕ} {u : Substitution} (g : Setting d problem t s z heights u) where
   abbrev height : ℕ → ℕ
-  height = height_of d t s z heights
+  height = height_of s heights
 
   abbrev UpTo : Variable → ℕ → Type 0
   UpTo = NodeUpTo d t s z heights

@@ -43,7 +43,7 @@ variable_sort d x = record { form = var x; equal = stop; gets = record { sort = 
 
 module _ {d : Declarations} {problem : Problem} {t : NodeTable} {s : State} {z : ℕ} {heights : List ℕ} {u : Substitution} (g : Setting d problem t s z heights u) where
   abbrev height : ℕ → ℕ
-  height = height_of d t s z heights
+  height = height_of s heights
 
   -- the loosened substitution on the variables of v, where it gives these their sorts
   module _ (v : Term) (sorted : (x : Variable) → Occurs x v → HasSort d (loosened g x) x.sort) where

@@ -31,7 +31,7 @@ use Rattle.fvn_combine_loose.proofs.After.{remade_kinded}
 
 module _ {d : Declarations} {problem : Problem} {t : NodeTable} {s : State} {z : ℕ} {heights : List ℕ} {u : Substitution} (g : Setting d problem t s z heights u) where
   abbrev height : ℕ → ℕ
-  height = height_of d t s z heights
+  height = height_of s heights
 
   abbrev loosened_at : (x : Variable) → Decided (Contains (variables_of problem) x) → Term
   loosened_at x (inl c) = remade g (variable_place g.made g.table x c).0
@@ -72,7 +72,7 @@ module _ {d : Declarations} {problem : Problem} {t : NodeTable} {s : State} {z :
 
   over_remade : (i : ℕ) (f : OpId) (ks : List ℕ) → IsOver t.nodes i f ks → i < length t.nodes → BEqual d (app f (pack (map (remade g) ks))) (remade g i)
   over_remade i f ks over l = elim (cases_lt 0 (height i)) as (λ _. BEqual d (app f (pack (map (remade g) ks))) (remade g i)) [
-    | inl st ↦ equal_is d (sym (remade_over g i f ks over l st))
+    | inl st ↦ BEqual-sym d (remade_over g i f ks over l st)
     | inr le ↦
         let low : height i ≡ 0 = omega (arith, le) in
         let args = each_equal d (remade g) (λ k. apply u (term_at t.nodes k)) ks

@@ -26,7 +26,7 @@ module _ {d : Declarations} {problem : Problem} {t : NodeTable} {s : State} {z :
     well_sorted = after_sorted g;
     equal = λ x c.
         let r = loosened_given g x c in
-        let e = BEqual-sym d (after_remade g (height_of d t s z heights r.0) r.0 (omega arith) r.1) in
+        let e = BEqual-sym d (after_remade g (height_of s heights r.0) r.0 (omega arith) r.1) in
         subst (λ v. BEqual d (u x) (apply (after g) v)) (sym r.3) (subst (λ v. BEqual d (apply u v) (apply (after g) (remade g r.0))) (term_at-variable t.nodes r.0 x r.2) e);
   }
 

@@ -1,5 +1,5 @@
 -- What ranks give over nodes whose sorts are known.
-use Rattle.std.proofs.Common.{◌≡◌, ℕ, zero, suc, ◌+◌, ◌<◌, List, [], ◌∷◌, ◌++◌, length, map, get_or, refl, sym, ap, ◌∙◌, subst, ◌⊎◌, inl, inr, arith, Contains, Option, Some, None, slice_get}
+use Rattle.std.proofs.Common.{◌≡◌, ℕ, zero, suc, ◌<◌, List, [], ◌∷◌, ◌++◌, length, map, get_or, refl, sym, ap, ◌∙◌, subst, ◌⊎◌, inl, inr, arith, Option, Some, slice_get}
 use Rattle.std.specs.Prelude.{IfSome}
 use Rattle.std.proofs.lemmas.List.{get_or-map, length-map}
 use Rattle.fvn_terms.specs.declared.plain.Var.{Var as Variable}
@@ -8,16 +8,16 @@ use Rattle.fvn_terms.specs.declared.plain.SortId.{SortId}
 use Rattle.fvn_terms.specs.declared.declarations.Rank.{Rank}
 use Rattle.fvn_terms.specs.declared.declarations.Declarations.{Declarations}
 use Rattle.fvn_terms.specs.Term.{Term, Terms, var, app, none, more, pack}
-use Rattle.fvn_terms.specs.Signature.{declared, kind, AtOrBelow, same}
+use Rattle.fvn_terms.specs.Signature.{kind, AtOrBelow, same}
 use Rattle.fvn_terms.specs.Equality.{IsAxiomEitherWay}
 use Rattle.fvn_terms.specs.Sorts.{HasRank, is_declared, on_kinds, GetAtMost, HasSort}
 use Rattle.fvn_terms.proofs.Steps.{EachLeads, each_none, each_more}
 use Rattle.fvn_terms.proofs.Equal.{BEqual-refl, BEqual-inside}
 use Rattle.fvn_terms.proofs.WellSorted.{AtOrBelow-trans}
-use Rattle.fvn_combine_nodes.specs.Table.{term_at, IsOver, IsOrdered}
+use Rattle.fvn_combine_nodes.specs.Table.{term_at}
 use Rattle.fvn_combine_nodes.specs.declared.table.Node.{Node}
 use Rattle.fvn_combine_nodes.specs.declared.table.Node.TheVariants.{Var}
-use Rattle.fvn_combine_nodes.proofs.Nodes.{term_at-variable, term_at-over}
+use Rattle.fvn_combine_nodes.proofs.Nodes.{term_at-variable}
 use Rattle.fvn_combine_loose.specs.inner.NodeSorts.{HaveSorts, Fit, IsGivenBy}
 
 module _ (d : Declarations) where

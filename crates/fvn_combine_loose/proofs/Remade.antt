@@ -6,14 +6,15 @@ use Rattle.fvn_terms.specs.declared.plain.OpId.{OpId}
 use Rattle.fvn_terms.specs.declared.declarations.Declarations.{Declarations}
 use Rattle.fvn_terms.specs.Term.{Term, var, app, pack}
 use Rattle.fvn_terms.specs.Substitution.{Substitution, apply, Occurs}
-use Rattle.fvn_terms.specs.Equality.{BEqual}
+use Rattle.fvn_terms.specs.Places.{here, stop, step}
+use Rattle.fvn_terms.specs.Equality.{BEqual, swap}
 use Rattle.fvn_terms.specs.Unifiers.{Problem}
+use Rattle.fvn_terms.proofs.Equal.{BEqual-trans}
 use Rattle.fvn_combine_nodes.specs.Table.{NodeTable, IsOver, term_at}
-use Rattle.fvn_combine_nodes.specs.Classes.{AreTogether}
 use Rattle.fvn_combine_nodes.specs.States.{class_of}
 use Rattle.fvn_combine_nodes.specs.declared.state.State.{State}
-use Rattle.fvn_combine_loose.specs.Loose.{height_of, IsHeaded}
-use Rattle.fvn_combine_loose.proofs.Mapped.{mapped_among}
+use Rattle.fvn_combine_loose.specs.Loose.{height_of, AreMadeAlike, IsHeaded}
+use Rattle.fvn_combine_loose.proofs.Mapped.{equal_is, mapped_among}
 use Rattle.fvn_combine_loose.proofs.Setting.{Setting, class_within, class_again, one_value, same_height, argument_within, argument_at}
 use Rattle.fvn_combine_loose.proofs.NewVariable.{new, not_in_old}
 use Rattle.fvn_combine_loose.proofs.Worths.{worth, worth_low, worth_bottom, worth_headed}
@@ -30,7 +31,7 @@ same_or_other a b = elim (cases_order a b) as (λ _. Decided (a ≡ b)) [
 
 module _ {d : Declarations} {problem : Problem} {t : NodeTable} {s : State} {z : ℕ} {heights : List ℕ} {u : Substitution} (g : Setting d problem t s z heights u) where
   abbrev height : ℕ → ℕ
-  height = height_of d t s z heights
+  height = height_of s heights
 
   -- the new value of node i
   abbrev pub remade : ℕ → Term
@@ -58,24 +59,33 @@ module _ {d : Declarations} {problem : Problem} {t : NodeTable} {s : State} {z :
       let h = worth_headed g (class_of s i) (class_within g i l) (omega (arith, e, stands)) (λ f. other (sym again ∙ f)) in
       (record { member = h.0.member; operator = h.0.operator; arguments = h.0.arguments; over = h.0.over; of = h.0.of ∙ again }, h.1)
 
-  remade_together : (ks ls : List ℕ) → AreTogether (class_of s) ks ls → map remade ks ≡ map remade ls
-  remade_together [] [] e = refl
-  remade_together [] (l ∷ ls) e = cc
-  remade_together (k ∷ ks) [] e = cc
-  remade_together (k ∷ ks) (l ∷ ls) e =
-      let first : class_of s k ≡ class_of s l = cc in
-      let rest : map (class_of s) ks ≡ map (class_of s) ls = cc in
-      let a : remade k ≡ remade l = remade_same k l first in
-      let b : map remade ks ≡ map remade ls = remade_together ks ls rest in
-      cc
+  remade_classes : (ks : List ℕ) → map remade ks ≡ map (worth g) (map (class_of s) ks)
+  remade_classes [] = refl
+  remade_classes (k ∷ ks) = ap (λ ts. remade k ∷ ts) (remade_classes ks)
 
-  -- that of an operator in which the loose class stands is the operator over the new values of its arguments
-  pub remade_over : (i : ℕ) (f : OpId) (ks : List ℕ) → IsOver t.nodes i f ks → i < length t.nodes → 0 < height i → remade i ≡ app f (pack (map remade ks))
+  over_classes : (f : OpId) (ks cs : List ℕ) → map (class_of s) ks ≡ cs → BEqual d (app f (pack (map remade ks))) (app f (pack (map (worth g) cs)))
+  over_classes f ks cs e = equal_is d (ap (λ ts. app f (pack ts)) (remade_classes ks ∙ ap (map (worth g)) e))
+
+  classes_over : (f : OpId) (ks cs : List ℕ) → map (class_of s) ks ≡ cs → BEqual d (app f (pack (map (worth g) cs))) (app f (pack (map remade ks)))
+  classes_over f ks cs e = equal_is d (sym (ap (λ ts. app f (pack ts)) (remade_classes ks ∙ ap (map (worth g)) e)))
+
+  -- arguments that are made alike have new values over which the operator is equal
+  remade_alike : (f : OpId) (ks ls : List ℕ) → AreMadeAlike d (class_of s) f ks ls → BEqual d (app f (pack (map remade ks))) (app f (pack (map remade ls)))
+  remade_alike f ks ls (inl e) = BEqual-trans d (over_classes f ks (map (class_of s) ls) e) (classes_over f ls (map (class_of s) ls) refl)
+  remade_alike f ks ls (inr (commutes, w)) =
+      BEqual-trans d (over_classes f ks (w.first ∷ w.second ∷ []) w.left)
+      (BEqual-trans d (exchanged (worth g w.first) (worth g w.second)) (classes_over f ls (w.second ∷ w.first ∷ []) w.right))
+    where
+      exchanged : (v r : Term) → BEqual d (app f (pack (v ∷ r ∷ []))) (app f (pack (r ∷ v ∷ [])))
+      exchanged v r = step (here (inl (swap commutes))) stop
+
+  -- that of an operator in which the loose class stands is the operator over the new values of its arguments, up to the axioms
+  pub remade_over : (i : ℕ) (f : OpId) (ks : List ℕ) → IsOver t.nodes i f ks → i < length t.nodes → 0 < height i → BEqual d (remade i) (app f (pack (map remade ks)))
   remade_over i f ks over l stands =
       let r = remade_headed i l stands (λ e. g.loose.open_class record { member = i; operator = f; arguments = ks; over = over; of = e }) in
       let e = same_height g r.0.member i r.0.of in
       let a = g.loose.alike r.0.member i r.0.operator f r.0.arguments ks r.0.over over r.0.of (omega (arith, e, stands)) in
-      r.1 ∙ ap (λ o. app o (pack (map remade r.0.arguments))) a.0 ∙ ap (λ ts. app f (pack ts)) (remade_together r.0.arguments ks a.1)
+      BEqual-trans d (equal_is d r.1) (BEqual-trans d (remade_alike r.0.operator r.0.arguments ks a.1) (equal_is d (ap (λ o. app o (pack (map remade ks))) a.0)))
 
   -- the new variable stands in the new values of those in which the loose class stands, and in no others
   pub new_stands : (n i : ℕ) → height i ≤ n → i < length t.nodes → 0 < height i → Occurs (new g) (remade i)

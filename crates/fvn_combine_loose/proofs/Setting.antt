@@ -32,7 +32,7 @@ pub record Setting (d : Declarations) (problem : Problem) (t : NodeTable) (s : S
 
 module _ {d : Declarations} {problem : Problem} {t : NodeTable} {s : State} {z : ℕ} {heights : List ℕ} {u : Substitution} (g : Setting d problem t s z heights u) where
   abbrev height : ℕ → ℕ
-  height = height_of d t s z heights
+  height = height_of s heights
 
   pub named : (i : ℕ) → i < length t.nodes → i < length s.names
   named i l = let w = g.closed.whole in omega (arith, l, w)
@@ -59,7 +59,7 @@ module _ {d : Declarations} {problem : Problem} {t : NodeTable} {s : State} {z :
   argument_within i f ks over k c = All-contains (λ k. k < length t.nodes) ks k (arguments_within t.nodes g.made.ordered i f ks over) c
 
   pub argument_lower : (i : ℕ) (f : OpId) (ks : List ℕ) → IsOver t.nodes i f ks → (k : ℕ) → Contains ks k → 0 < height k → height k < height i
-  argument_lower i f ks over k c = All-contains (λ k. StandsIn d t s z heights k → height k < height i) ks k (g.loose.lower i f ks over) c
+  argument_lower i f ks over k c = All-contains (λ k. StandsIn s heights k → height k < height i) ks k (g.loose.lower i f ks over) c
 
   -- an argument of what is no higher than n + 1 is no higher than n
   pub argument_at : (i : ℕ) (f : OpId) (ks : List ℕ) → IsOver t.nodes i f ks → (k : ℕ) → Contains ks k → (n : ℕ) → height i ≤ n + 1 → height k ≤ n

@@ -31,7 +31,7 @@ IsVariableAt d t v i = (x : Var) × (value_at d v t.nodes i ≡ fvar x)
 
 module _ {d : Declarations} {problem : Problem} {t : NodeTable} {s : State} {z : ℕ} {heights : List ℕ} {u : Substitution} (g : Setting d problem t s z heights u) where
   abbrev height : ℕ → ℕ
-  height = height_of d t s z heights
+  height = height_of s heights
 
   -- the new value of what is in the loose class is the new variable
   value_bottom : (i : ℕ) → i < length t.nodes → class_of s i ≡ class_of s z → value_at d (loosened g) t.nodes i ≡ fvar (new g)

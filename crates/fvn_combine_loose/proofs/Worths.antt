@@ -26,7 +26,7 @@ within_top (h ∷ hs) (suc i) = let l = within_top hs i in omega (arith, l)
 
 module _ {d : Declarations} {problem : Problem} {t : NodeTable} {s : State} {z : ℕ} {heights : List ℕ} {u : Substitution} (g : Setting d problem t s z heights u) where
   abbrev height : ℕ → ℕ
-  height = height_of d t s z heights
+  height = height_of s heights
 
   -- what class i is: none of a node or one in which the loose class does not stand, the loose class, or one that is headed
   abbrev Role : ℕ → Type 0
@@ -104,7 +104,7 @@ module _ {d : Declarations} {problem : Problem} {t : NodeTable} {s : State} {z :
     where
       go : (r : Role i) → made_of worth i r ≡ var (new g)
       go (inl (inl out)) = absurd (omega (arith, out, l))
-      go (inl (inr low)) = absurd (let e = same_height g i z same in let st = g.loose.bottom in omega (arith, low, e, st))
+      go (inl (inr low)) = absurd (let e = same_height g i z same in let st = g.loose.stands in omega (arith, low, e, st))
       go (inr (st, inl e)) = refl
       go (inr (st, inr m)) = absurd (g.loose.open_class record { member = m.member; operator = m.operator; arguments = m.arguments; over = m.over; of = m.of ∙ same })
 

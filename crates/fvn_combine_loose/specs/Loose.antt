@@ -1,14 +1,36 @@
 -- Loose classes: those whose value may be a new variable under each unifier of a state, and the classes that are made from them.
-use Rattle.std.specs.Prelude.{◌≡◌, ◌≢◌, ◌⊎◌, ℕ, ◌<◌, List, length, slice_get, slice_index_or, Some, All, Any}
+use Rattle.std.specs.Prelude.{◌≡◌, ◌≢◌, ◌⊎◌, ℕ, ◌<◌, List, [], ◌∷◌, length, map, slice_get, slice_index_or, Some, All, Any}
 use Rattle.fvn_terms.specs.declared.plain.Var.{Var as Variable}
 use Rattle.fvn_terms.specs.declared.plain.OpId.{OpId}
 use Rattle.fvn_terms.specs.declared.declarations.Declarations.{Declarations}
+use Rattle.fvn_terms.specs.Signature.{axioms}
+use Rattle.fvn_terms.specs.Equality.{IsCommutative}
 use Rattle.fvn_terms.specs.Sorts.{HasSort}
 use Rattle.fvn_combine_nodes.specs.Table.{NodeTable, IsOver, term_at}
 use Rattle.fvn_combine_nodes.specs.Classes.{AreTogether}
 use Rattle.fvn_combine_nodes.specs.States.{IsOpen, class_of}
 use Rattle.fvn_combine_nodes.specs.declared.state.State.{State}
 use Rattle.fvn_combine_nodes.specs.declared.table.Node.TheVariants.{Var}
+
+module _ (s : State) (heights : List ℕ) where
+  -- the height of node i's class: 0 where the loose class does not stand in it
+  abbrev pub height_of : ℕ → ℕ
+  height_of i = slice_index_or heights (class_of s i) 0
+
+  -- the loose class stands in the class of node i
+  abbrev pub StandsIn : ℕ → Type 0
+  StandsIn i = 0 < height_of i
+
+-- there are two nodes in each list, and they lie in the same classes crosswise
+pub record AreCrosswise (class : ℕ → ℕ) (ks ls : List ℕ) : Type 0 where
+  pub first : ℕ
+  pub second : ℕ
+  pub left : map class ks ≡ first ∷ second ∷ []
+  pub right : map class ls ≡ second ∷ first ∷ []
+
+-- arguments of f lie in the same classes place by place, or crosswise where f is commutative
+abbrev pub AreMadeAlike : Declarations → (ℕ → ℕ) → OpId → List ℕ → List ℕ → Type 0
+AreMadeAlike d class f ks ls = AreTogether class ks ls ⊎ (IsCommutative (axioms d f) × AreCrosswise class ks ls)
 
 module _ (d : Declarations) (t : NodeTable) (s : State) where
   -- an operator heads a member of node i's class
@@ -20,30 +42,26 @@ module _ (d : Declarations) (t : NodeTable) (s : State) where
     pub of : class_of s member ≡ class_of s i
 
   module _ (z : ℕ) (heights : List ℕ) where
-    -- the height of node i's class: 0 where z does not stand in it
-    abbrev pub height_of : ℕ → ℕ
-    height_of i = slice_index_or heights (class_of s i) 0
-
-    -- z stands in the class of node i
-    abbrev pub StandsIn : ℕ → Type 0
-    StandsIn i = 0 < height_of i
-
     -- No operator heads a member of z's class. Each other class in which z stands is headed, in one way alone: all its members that
-    -- operators head are one operator over the same classes, z stands in one of these, and all of these in which it stands are lower.
-    -- Where z stands in an argument it stands in the whole. So z's class may have any value, and makes those of the others.
+    -- operators head are one operator over the same classes (in either order where it is commutative), z stands in one of these, and
+    -- all of these in which it stands are lower. Where z stands in an argument it stands in the whole. So z's class may have any value,
+    -- and makes those of the others.
     pub record IsLoose : Type 0 where
       pub within : z < length t.nodes
-      pub bottom : StandsIn z
+      pub stands : StandsIn s heights z
       pub open_class : IsHeaded z → ⊥
-      pub upward : (i : ℕ) (f : OpId) (ks : List ℕ) → IsOver t.nodes i f ks → Any StandsIn ks → StandsIn i
-      pub lower : (i : ℕ) (f : OpId) (ks : List ℕ) → IsOver t.nodes i f ks → All (λ k. StandsIn k → height_of k < height_of i) ks
-      pub over : (i : ℕ) (f : OpId) (ks : List ℕ) → IsOver t.nodes i f ks → StandsIn i → Any StandsIn ks
-      pub headed : (i : ℕ) → i < length t.nodes → StandsIn i → class_of s i ≢ class_of s z → IsHeaded i
+      pub upward : (i : ℕ) (f : OpId) (ks : List ℕ) → IsOver t.nodes i f ks
+          → Any (StandsIn s heights) ks → StandsIn s heights i
+      pub lower : (i : ℕ) (f : OpId) (ks : List ℕ) → IsOver t.nodes i f ks
+          → All (λ k. StandsIn s heights k → height_of s heights k < height_of s heights i) ks
+      pub over : (i : ℕ) (f : OpId) (ks : List ℕ) → IsOver t.nodes i f ks
+          → StandsIn s heights i → Any (StandsIn s heights) ks
+      pub headed : (i : ℕ) → i < length t.nodes → StandsIn s heights i → class_of s i ≢ class_of s z → IsHeaded i
       pub alike : (i j : ℕ) (f g : OpId) (ks ls : List ℕ) → IsOver t.nodes i f ks → IsOver t.nodes j g ls → class_of s i ≡ class_of s j
-          → StandsIn i → (f ≡ g) × AreTogether (class_of s) ks ls
+          → StandsIn s heights i → (f ≡ g) × AreMadeAlike d (class_of s) f ks ls
       -- what an operator heads has the sorts of the variables of its class
       pub sorts : (i j : ℕ) (x : Variable) (f : OpId) (ks : List ℕ) → slice_get t.nodes i ≡ Some (Var x) → IsOver t.nodes j f ks
-          → class_of s i ≡ class_of s j → StandsIn j → HasSort d (term_at t.nodes j) x.sort
+          → class_of s i ≡ class_of s j → StandsIn s heights j → HasSort d (term_at t.nodes j) x.sort
 
   -- the class of node z is loose, by some heights
   pub record IsLooseClass (z : ℕ) : Type 0 where
@@ -63,7 +81,7 @@ module _ (d : Declarations) (t : NodeTable) (s : State) where
     pub loose : IsLoose bottom heights
     pub left : i < length t.nodes
     pub right : j < length t.nodes
-    pub one : (StandsIn bottom heights i × (height_of bottom heights j ≡ 0)) ⊎ ((height_of bottom heights i ≡ 0) × StandsIn bottom heights j)
+    pub one : (StandsIn s heights i × (height_of s heights j ≡ 0)) ⊎ ((height_of s heights i ≡ 0) × StandsIn s heights j)
 
   -- so it is of two nodes of which it is open whether they are in one class
   pub record ArePartedOpen (p : ℕ × ℕ) : Type 0 where

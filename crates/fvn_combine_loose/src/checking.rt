@@ -1,20 +1,21 @@
 //! Whether guessed heights are those of the classes in which a loose class stands.
-ghost use Rattle.std.specs.Prelude.{◌≡◌, ℕ, ◌<◌, length, slice_index_or, None, All, IsTrue};
+ghost use Rattle.std.specs.Prelude.{◌≡◌, ℕ, ◌<◌, length, slice_index_or, None, All, IsTrue, IfOk};
 ghost use Rattle.fvn_combine_nodes.specs.Classes.{AreTogether};
 ghost use Rattle.fvn_combine_nodes.specs.States.{IsClosed, class_of};
-ghost use Rattle.fvn_combine_loose.specs.Loose.{IsLoose};
-ghost use Rattle.fvn_combine_loose.specs.inner.Checks.{height_in, IsHighest, IsRaised, AreRaised, IsVariable, AreOver, IsLike, IsNoted, IsBuilt, AreOfSort, IsOfSort, IsSorted};
+ghost use Rattle.fvn_combine_loose.specs.Loose.{height_of, AreCrosswise, AreMadeAlike, IsLoose};
+ghost use Rattle.fvn_combine_loose.specs.inner.Checks.{IsHighest, IsRaised, AreRaised, IsVariable, AreOver, IsLike, IsNoted, IsMarked, IsBuilt, AreOfSort, IsOfSort, IsFine, AreFine};
 ghost use Rattle.fvn_combine_loose.specs.inner.NodeSorts.{HaveSorts};
 
 use crate::sorts::has_sort;
 use fvn_combine_nodes::{Node, State, Table};
 use fvn_signature::Signature;
-use fvn_terms::{OpId, SortId};
+use fvn_terms::{NoMemory, OpId, SortId};
+use std::alloc::Global;
 
 // The height of the class of node i.
 pub(crate) fn height_at(state: &State, heights: &[usize], i: usize) -> usize
     requires { i < length state.now.names }
-    ensures { result ≡ height_in state.now heights.now i }
+    ensures { result ≡ height_of state.now heights.now i }
 {
     match heights.get(state.class_of(i)) {
         None => 0,
@@ -101,12 +102,45 @@ fn are_together(state: &State, ks: &[usize], ls: &[usize]) -> bool
     true
 }
 
-// Whether node i is a variable, or this operator over the classes of these nodes.
-fn is_over(table: &Table, state: &State, i: usize, g: OpId, ls: &[usize]) -> bool
+// Whether the lists are of two nodes each, and those of one are in the classes of those of the other crosswise.
+fn are_crosswise(state: &State, ks: &[usize], ls: &[usize]) -> bool
+    requires left { All (λ k. k < length state.now.names) ks.now }
+    requires right { All (λ k. k < length state.now.names) ls.now }
+    ensures { IsTrue result → AreCrosswise (class_of state.now) ks.now ls.now }
+{
+    if ks.len() != 2 {
+        return false;
+    }
+    if ls.len() != 2 {
+        return false;
+    }
+    if state.class_of(ks[0]) != state.class_of(ls[1]) {
+        return false;
+    }
+    state.class_of(ks[1]) == state.class_of(ls[0])
+}
+
+// Whether arguments of an operator are in the same classes place by place, or crosswise where it is commutative.
+fn are_made_alike(sig: &Signature, state: &State, f: OpId, ks: &[usize], ls: &[usize]) -> bool
+    requires left { All (λ k. k < length state.now.names) ks.now }
+    requires right { All (λ k. k < length state.now.names) ls.now }
+    ensures { IsTrue result → AreMadeAlike sig.now (class_of state.now) f ks.now ls.now }
+{
+    if are_together(state, ks, ls) {
+        return true;
+    }
+    if !sig.axioms(f).is_commutative() {
+        return false;
+    }
+    are_crosswise(state, ks, ls)
+}
+
+// Whether node i is a variable, or this operator over arguments that are made alike these nodes.
+fn is_over(sig: &Signature, table: &Table, state: &State, i: usize, g: OpId, ls: &[usize]) -> bool
     requires whole { length state.now.names ≡ length table.now.nodes }
     requires within { i < length table.now.nodes }
     requires all { All (λ k. k < length table.now.nodes) ls.now }
-    ensures { IsTrue result → AreOver table.now state.now i g ls.now }
+    ensures { IsTrue result → AreOver sig.now table.now state.now i g ls.now }
 {
     table.recall_well_made();
     match table.node(i) {
@@ -115,17 +149,17 @@ fn is_over(table: &Table, state: &State, i: usize, g: OpId, ls: &[usize]) -> boo
             if *f != g {
                 return false;
             }
-            are_together(state, ks.as_slice(), ls)
+            are_made_alike(sig, state, *f, ks.as_slice(), ls)
         }
     }
 }
 
-// Whether an operator heads node m, which is in the class of node i, and node i is a variable, or is it over the same
-// classes.
-pub(crate) fn is_like(table: &Table, state: &State, m: usize, i: usize) -> bool
+// Whether an operator heads node m, which is in the class of node i, and node i is a variable, or is it over arguments that
+// are made alike.
+pub(crate) fn is_like(sig: &Signature, table: &Table, state: &State, m: usize, i: usize) -> bool
     requires whole { length state.now.names ≡ length table.now.nodes }
     requires within { i < length table.now.nodes }
-    ensures { IsTrue result → IsLike table.now state.now m i }
+    ensures { IsTrue result → IsLike sig.now table.now state.now m i }
 {
     table.recall_well_made();
     if m >= table.nodes().len() {
@@ -136,67 +170,26 @@ pub(crate) fn is_like(table: &Table, state: &State, m: usize, i: usize) -> bool
     }
     match table.node(m) {
         Node::Var(_) => false,
-        Node::App(g, ls) => is_over(table, state, i, *g, ls.as_slice()),
+        Node::App(g, ls) => is_over(sig, table, state, i, *g, ls.as_slice()),
     }
 }
 
 // Whether node i is like the node that is noted to head its class.
-fn is_noted(table: &Table, state: &State, heads: &[Option<usize>], i: usize) -> bool
-    requires whole { length state.now.names ≡ length table.now.nodes }
-    requires within { i < length table.now.nodes }
-    ensures { IsTrue result → IsNoted table.now state.now heads.now i }
-{
-    match head_at(state, heads, i) {
-        None => false,
-        Some(m) => is_like(table, state, m, i),
-    }
-}
-
-// Whether node i is what it must be where node z's class is loose, but for its sort.
-fn is_built_at(
+fn is_noted(
+    sig: &Signature,
     table: &Table,
     state: &State,
     heads: &[Option<usize>],
-    heights: &[usize],
-    z: usize,
     i: usize,
 ) -> bool
     requires whole { length state.now.names ≡ length table.now.nodes }
-    requires bottom { z < length table.now.nodes }
     requires within { i < length table.now.nodes }
-    ensures { IsTrue result → IsBuilt table.now state.now heads.now heights.now z i }
+    ensures { IsTrue result → IsNoted sig.now table.now state.now heads.now i }
 {
-    if !are_raised(table, state, heights, i) {
-        return false;
+    match head_at(state, heads, i) {
+        None => false,
+        Some(m) => is_like(sig, table, state, m, i),
     }
-    if state.class_of(i) == state.class_of(z) {
-        return is_variable(table, i);
-    }
-    if height_at(state, heights, i) == 0 {
-        return true;
-    }
-    is_noted(table, state, heads, i)
-}
-
-// The same of all nodes.
-fn is_built(
-    table: &Table,
-    state: &State,
-    heads: &[Option<usize>],
-    heights: &[usize],
-    z: usize,
-) -> bool
-    requires whole { length state.now.names ≡ length table.now.nodes }
-    requires bottom { z < length table.now.nodes }
-    ensures { IsTrue result → (i : ℕ) → i < length table.now.nodes
-        → IsBuilt table.now state.now heads.now heights.now z i }
-{
-    for i in 0..table.nodes().len() {
-        if !is_built_at(table, state, heads, heights, z, i) {
-            return false;
-        }
-    }
-    true
 }
 
 // Whether node j is in another class than node i, or a variable, or is known to have the sort.
@@ -246,28 +239,23 @@ fn are_of_sort(
     true
 }
 
-// Whether node i is in z's class, or one in which it does not stand, or no variable, or what operators head in its class is
-// known to have its sort.
-fn is_sorted_at(
+// Whether node i is like the node that is noted to head its class, and, where it is a variable, what operators head in its
+// class is known to have its sort.
+fn is_fine(
     sig: &Signature,
     table: &Table,
     state: &State,
     sorts: &[Option<SortId>],
-    heights: &[usize],
-    z: usize,
+    heads: &[Option<usize>],
     i: usize,
 ) -> bool
     requires whole { length state.now.names ≡ length table.now.nodes }
     requires sorts { HaveSorts sig.now table.now.nodes sorts.now }
-    requires bottom { z < length table.now.nodes }
     requires within { i < length table.now.nodes }
-    ensures { IsTrue result → IsSorted sig.now table.now state.now heights.now z i }
+    ensures { IsTrue result → IsFine sig.now table.now state.now heads.now i }
 {
-    if state.class_of(i) == state.class_of(z) {
-        return true;
-    }
-    if height_at(state, heights, i) == 0 {
-        return true;
+    if !is_noted(sig, table, state, heads, i) {
+        return false;
     }
     match table.node(i) {
         Node::Var(x) => are_of_sort(sig, table, state, sorts, i, x.sort),
@@ -275,23 +263,73 @@ fn is_sorted_at(
     }
 }
 
-// The same of all nodes.
-fn is_sorted(
+// A mark for each node: whether it is so.
+pub(crate) fn fine_nodes(
+    alloc: Global,
     sig: &Signature,
     table: &Table,
     state: &State,
     sorts: &[Option<SortId>],
-    heights: &[usize],
-    z: usize,
-) -> bool
+    heads: &[Option<usize>],
+) -> Result<Vec<bool>, NoMemory>
     requires whole { length state.now.names ≡ length table.now.nodes }
     requires sorts { HaveSorts sig.now table.now.nodes sorts.now }
+    ensures { IfOk result (λ marks. AreFine sig.now table.now state.now marks.items) }
+{
+    let count = table.nodes().len();
+    let mut marks = Vec::with_capacity(alloc, count)?;
+    for i in 0..count {
+        let fine = is_fine(sig, table, state, sorts, heads, i);
+        marks.push(fine)?;
+    }
+    Ok(marks)
+}
+
+// Whether node i is marked.
+fn is_marked(marks: &[bool], i: usize) -> bool
+    ensures { IsTrue result → IsMarked marks.now i }
+{
+    match marks.get(i) {
+        None => false,
+        Some(mark) => *mark,
+    }
+}
+
+// Whether node i is what it must be where node z's class is loose.
+fn is_built_at(
+    table: &Table,
+    state: &State,
+    marks: &[bool],
+    heights: &[usize],
+    z: usize,
+    i: usize,
+) -> bool
+    requires whole { length state.now.names ≡ length table.now.nodes }
+    requires bottom { z < length table.now.nodes }
+    requires within { i < length table.now.nodes }
+    ensures { IsTrue result → IsBuilt table.now state.now marks.now heights.now z i }
+{
+    if !are_raised(table, state, heights, i) {
+        return false;
+    }
+    if state.class_of(i) == state.class_of(z) {
+        return is_variable(table, i);
+    }
+    if height_at(state, heights, i) == 0 {
+        return true;
+    }
+    is_marked(marks, i)
+}
+
+// The same of all nodes.
+fn is_built(table: &Table, state: &State, marks: &[bool], heights: &[usize], z: usize) -> bool
+    requires whole { length state.now.names ≡ length table.now.nodes }
     requires bottom { z < length table.now.nodes }
     ensures { IsTrue result → (i : ℕ) → i < length table.now.nodes
-        → IsSorted sig.now table.now state.now heights.now z i }
+        → IsBuilt table.now state.now marks.now heights.now z i }
 {
     for i in 0..table.nodes().len() {
-        if !is_sorted_at(sig, table, state, sorts, heights, z, i) {
+        if !is_built_at(table, state, marks, heights, z, i) {
             return false;
         }
     }
@@ -303,21 +341,18 @@ pub(crate) fn is_loose(
     sig: &Signature,
     table: &Table,
     state: &State,
-    sorts: &[Option<SortId>],
-    heads: &[Option<usize>],
+    marks: &[bool],
     heights: &[usize],
     z: usize,
 ) -> bool
     requires closed { IsClosed sig.now table.now state.now }
-    requires sorts { HaveSorts sig.now table.now.nodes sorts.now }
+    requires fine { AreFine sig.now table.now state.now marks.now }
     requires bottom { z < length table.now.nodes }
     ensures { IsTrue result → IsLoose sig.now table.now state.now z heights.now }
 {
     if height_at(state, heights, z) == 0 {
         return false;
     }
-    if !is_built(table, state, heads, heights, z) {
-        return false;
-    }
-    is_sorted(sig, table, state, sorts, heights, z)
+    let _sig = sig;
+    is_built(table, state, marks, heights, z)
 }

@@ -3,6 +3,7 @@ ghost use Rattle.std.specs.Prelude.{◌≡◌, ◌<◌, length, All, IfOk};
 
 use crate::checking::{head_at, height_at, highest, is_like};
 use fvn_combine_nodes::{Node, State, Table};
+use fvn_signature::Signature;
 use fvn_terms::NoMemory;
 use std::alloc::Global;
 
@@ -77,6 +78,7 @@ fn set_head(heads: &mut Vec<Option<usize>>, class: usize, i: usize) {
 // Notes node i, which an operator heads, as the head of its class, and bars the class where it has another head, or where
 // it stands in itself.
 fn note(
+    sig: &Signature,
     table: &Table,
     state: &State,
     heads: &mut Vec<Option<usize>>,
@@ -97,7 +99,7 @@ fn note(
             match head_at(state, heads.as_slice(), i) {
                 None => set_head(heads, class, i),
                 Some(m) => {
-                    if !is_like(table, state, m, i) {
+                    if !is_like(sig, table, state, m, i) {
                         bar(barred, class);
                     }
                 }
@@ -133,14 +135,19 @@ fn pass_all_down(table: &Table, state: &State, barred: &mut Vec<bool>)
 }
 
 // The ways in which classes are made.
-pub(crate) fn ways_of(alloc: Global, table: &Table, state: &State) -> Result<Ways, NoMemory>
+pub(crate) fn ways_of(
+    alloc: Global,
+    sig: &Signature,
+    table: &Table,
+    state: &State,
+) -> Result<Ways, NoMemory>
     requires whole { length state.now.names ≡ length table.now.nodes }
 {
     let count = table.nodes().len();
     let mut heads = headless(alloc, count)?;
     let mut barred = unbarred(alloc, count)?;
     for i in 0..count {
-        note(table, state, &mut heads, &mut barred, i);
+        note(sig, table, state, &mut heads, &mut barred, i);
     }
     pass_all_down(table, state, &mut barred);
     Ok(Ways { heads, barred })
@@ -171,17 +178,6 @@ pub(crate) fn has_candidate(table: &Table, state: &State, ways: &Ways) -> bool
     false
 }
 
-// As many zeros.
-fn zeros(alloc: Global, count: usize) -> Result<Vec<usize>, NoMemory>
-    ensures { IfOk result (λ v. length v.items ≡ count) }
-{
-    let mut heights = Vec::with_capacity(alloc, count)?;
-    for _i in 0..count {
-        heights.push(0)?;
-    }
-    Ok(heights)
-}
-
 // Notes the height of a class.
 fn set_height(heights: &mut Vec<usize>, class: usize, height: usize)
     ensures { length heights.new.items ≡ length heights.old.items }
@@ -203,7 +199,7 @@ fn beneath(table: &Table, state: &State, heights: &[usize], i: usize) -> usize
     }
 }
 
-// Raises the class of node i above those of its arguments; answers whether that was to do.
+// Raises the class of node i above those of its arguments; answers whether nodes before i may stand above it.
 fn raise(table: &Table, state: &State, heights: &mut Vec<usize>, i: usize) -> bool
     requires whole { length state.now.names ≡ length table.now.nodes }
     requires within { i < length table.now.nodes }
@@ -219,25 +215,27 @@ fn raise(table: &Table, state: &State, heights: &mut Vec<usize>, i: usize) -> bo
     if high >= table.nodes().len() {
         return false;
     }
-    set_height(heights, state.class_of(i), high + 1);
-    true
+    let class = state.class_of(i);
+    set_height(heights, class, high + 1);
+    class != i
 }
 
-// Raises all classes once; answers whether one was to be raised.
-fn raise_all(table: &Table, state: &State, heights: &mut Vec<usize>) -> bool
+// Raises the classes of the nodes from this one on, once; answers whether nodes before one may stand above its class.
+fn raise_from(table: &Table, state: &State, heights: &mut Vec<usize>, first: usize) -> bool
     requires whole { length state.now.names ≡ length table.now.nodes }
     ensures { length heights.new.items ≡ length heights.old.items }
 {
-    let mut raised = false;
-    for i in 0..table.nodes().len() {
+    let mut turned = false;
+    for i in first..table.nodes().len() {
         if raise(table, state, heights, i) {
-            raised = true;
+            turned = true;
         }
     }
-    raised
+    turned
 }
 
-// Heights of the classes above that of node z.
+// Heights of the classes above that of node z, which names it: a node stands above its arguments' numbers, so what stands
+// above z comes after it, and one turn is enough but for classes that are named by a node before the one that is raised.
 pub(crate) fn heights_above(
     alloc: Global,
     table: &Table,
@@ -248,12 +246,14 @@ pub(crate) fn heights_above(
     ensures { IfOk result (λ v. length v.items ≡ length table.now.nodes) }
 {
     let count = table.nodes().len();
-    let mut heights = zeros(alloc, count)?;
+    let mut heights = vec![in alloc; 0usize; count]?;
     set_height(&mut heights, z, 1);
-    for _round in 0..count {
-        if !raise_all(table, state, &mut heights) {
+    let mut first = z;
+    for _turn in 0..count {
+        if !raise_from(table, state, &mut heights, first) {
             return Ok(heights);
         }
+        first = 0;
     }
     Ok(heights)
 }

@@ -2,16 +2,15 @@
 ghost use Rattle.std.specs.Prelude.{◌≡◌, ◌<◌, length, All, IfOk, IfSome};
 ghost use Rattle.fvn_combine_nodes.specs.States.{IsClosed};
 ghost use Rattle.fvn_combine_loose.specs.Loose.{IsLoose, IsLooseClass, AreHeights};
-ghost use Rattle.fvn_combine_loose.specs.inner.Checks.{AreFound};
-ghost use Rattle.fvn_combine_loose.specs.inner.NodeSorts.{HaveSorts};
+ghost use Rattle.fvn_combine_loose.specs.inner.Checks.{AreFine, AreFound};
 
-use crate::checking::is_loose;
+use crate::checking::{fine_nodes, is_loose};
 use crate::guessing::{Ways, has_candidate, heights_above, may_be_loose, ways_of};
 use crate::sorts::node_sorts;
 use fvn_base::Seq;
 use fvn_combine_nodes::{State, Table};
 use fvn_signature::Signature;
-use fvn_terms::{NoMemory, SortId};
+use fvn_terms::NoMemory;
 use std::alloc::Global;
 
 // The most nodes of a table whose loose classes are looked for: what that costs grows with their square.
@@ -30,12 +29,12 @@ fn heights_from(
     sig: &Signature,
     table: &Table,
     state: &State,
-    sorts: &[Option<SortId>],
     ways: &Ways,
+    marks: &[bool],
     z: usize,
 ) -> Result<Option<Seq<usize>>, NoMemory>
     requires closed { IsClosed sig.now table.now state.now }
-    requires sorts { HaveSorts sig.now table.now.nodes sorts.now }
+    requires fine { AreFine sig.now table.now state.now marks.now }
     requires bottom { z < length table.now.nodes }
     ensures { IfOk result (λ o. IfSome o (λ h.
         (length h ≡ length table.now.nodes) × IsLoose sig.now table.now state.now z h)) }
@@ -44,15 +43,7 @@ fn heights_from(
         return Ok(None);
     }
     let heights = heights_above(alloc, table, state, z)?;
-    if is_loose(
-        sig,
-        table,
-        state,
-        sorts,
-        ways.heads.as_slice(),
-        heights.as_slice(),
-        z,
-    ) {
+    if is_loose(sig, table, state, marks, heights.as_slice(), z) {
         return Ok(Some(Seq::from_vec(heights)));
     }
     Ok(None)
@@ -70,10 +61,18 @@ fn found_by(
     ensures { IfOk result (λ found. AreFound sig.now table.now state.now found.classes.items found.heights.items) }
 {
     let sorts = node_sorts(alloc, sig, table)?;
+    let marks = fine_nodes(
+        alloc,
+        sig,
+        table,
+        state,
+        sorts.as_slice(),
+        ways.heads.as_slice(),
+    )?;
     let mut classes = Vec::new(alloc);
     let mut all = Vec::new(alloc);
     for z in 0..table.nodes().len() {
-        let found = heights_from(alloc, sig, table, state, sorts.as_slice(), ways, z)?;
+        let found = heights_from(alloc, sig, table, state, ways, marks.as_slice(), z)?;
         match found {
             None => {}
             Some(heights) => {
@@ -104,7 +103,7 @@ fn find_loose(
             heights: Vec::new(alloc),
         });
     }
-    let ways = ways_of(alloc, table, state)?;
+    let ways = ways_of(alloc, sig, table, state)?;
     if !has_candidate(table, state, &ways) {
         return Ok(Found {
             classes: Vec::new(alloc),

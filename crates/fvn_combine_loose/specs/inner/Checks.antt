@@ -1,36 +1,35 @@
 -- What is checked of each node, so that guessed heights are those of the classes in which a loose class stands.
-use Rattle.std.specs.Prelude.{◌≡◌, ◌≢◌, ◌⊎◌, ℕ, ◌<◌, ◌≤◌, List, length, slice_get, slice_index_or, Option, Some, None, All, Any}
+use Rattle.std.specs.Prelude.{◌≡◌, ◌≢◌, ◌⊎◌, ℕ, ◌<◌, ◌≤◌, Bool, true, List, length, slice_get, slice_index_or, Option, Some, None, All, Any}
 use Rattle.fvn_terms.specs.declared.plain.Var.{Var as Variable}
 use Rattle.fvn_terms.specs.declared.plain.OpId.{OpId}
 use Rattle.fvn_terms.specs.declared.plain.SortId.{SortId}
 use Rattle.fvn_terms.specs.declared.declarations.Declarations.{Declarations}
 use Rattle.fvn_terms.specs.Sorts.{HasSort}
 use Rattle.fvn_combine_nodes.specs.Table.{NodeTable, IsOver, term_at}
-use Rattle.fvn_combine_nodes.specs.Classes.{AreTogether}
 use Rattle.fvn_combine_nodes.specs.States.{class_of}
 use Rattle.fvn_combine_nodes.specs.declared.state.State.{State}
 use Rattle.fvn_combine_nodes.specs.declared.table.Node.TheVariants.{Var}
-use Rattle.fvn_combine_loose.specs.Loose.{IsLooseClass, AreHeights}
+use Rattle.fvn_combine_loose.specs.Loose.{height_of, AreMadeAlike, IsLooseClass, AreHeights}
 
--- the height of node i's class
-abbrev pub height_in : State → List ℕ → ℕ → ℕ
-height_in s heights i = slice_index_or heights (class_of s i) 0
+-- node i is marked
+abbrev pub IsMarked : List Bool → ℕ → Type 0
+IsMarked marks i = slice_get marks i ≡ Some true
 
 module _ (s : State) (heights : List ℕ) where
   -- one of the classes of two nodes has a height, and the other has none
   abbrev pub StandInOne : ℕ → ℕ → Type 0
-  StandInOne i j = ((0 < height_in s heights i) × (height_in s heights j ≡ 0)) ⊎ ((height_in s heights i ≡ 0) × (0 < height_in s heights j))
+  StandInOne i j = ((0 < height_of s heights i) × (height_of s heights j ≡ 0)) ⊎ ((height_of s heights i ≡ 0) × (0 < height_of s heights j))
 
   -- no height of the classes of these nodes is above it, and where it is not 0 one of them has a height
   pub record IsHighest (ks : List ℕ) (high : ℕ) : Type 0 where
-    pub above : All (λ k. height_in s heights k ≤ high) ks
-    pub reached : 0 < high → Any (λ k. 0 < height_in s heights k) ks
+    pub above : All (λ k. height_of s heights k ≤ high) ks
+    pub reached : 0 < high → Any (λ k. 0 < height_of s heights k) ks
 
   -- node i is above all of these that have a height, and has one exactly where one of these has
   pub record IsRaised (i : ℕ) (ks : List ℕ) : Type 0 where
-    pub upward : Any (λ k. 0 < height_in s heights k) ks → 0 < height_in s heights i
-    pub lower : All (λ k. 0 < height_in s heights k → height_in s heights k < height_in s heights i) ks
-    pub over : 0 < height_in s heights i → Any (λ k. 0 < height_in s heights k) ks
+    pub upward : Any (λ k. 0 < height_of s heights k) ks → 0 < height_of s heights i
+    pub lower : All (λ k. 0 < height_of s heights k → height_of s heights k < height_of s heights i) ks
+    pub over : 0 < height_of s heights i → Any (λ k. 0 < height_of s heights k) ks
 
 -- node i and its arguments are so
 abbrev pub AreRaised : NodeTable → State → List ℕ → ℕ → Type 0
@@ -41,33 +40,31 @@ module _ (t : NodeTable) where
   abbrev pub IsVariable : ℕ → Type 0
   IsVariable i = (f : OpId) (ks : List ℕ) → IsOver t.nodes i f ks → ⊥
 
-  module _ (s : State) where
-    -- where an operator heads node i, it is g over the classes of ls
-    abbrev pub AreOver : ℕ → OpId → List ℕ → Type 0
-    AreOver i g ls = (f : OpId) (ks : List ℕ) → IsOver t.nodes i f ks → (f ≡ g) × AreTogether (class_of s) ks ls
-
-    -- an operator heads node m, in the class of node i, and what heads node i is it over the same classes
-    pub record IsLike (m i : ℕ) : Type 0 where
-      pub operator : OpId
-      pub arguments : List ℕ
-      pub over : IsOver t.nodes m operator arguments
-      pub of : class_of s m ≡ class_of s i
-      pub alike : AreOver i operator arguments
-
-    -- node i is like the node that is noted to head its class
-    pub record IsNoted (heads : List (Option ℕ)) (i : ℕ) : Type 0 where
-      pub member : ℕ
-      pub noted : slice_index_or heads (class_of s i) None ≡ Some member
-      pub like : IsLike member i
-
-    module _ (heads : List (Option ℕ)) (heights : List ℕ) (z : ℕ) where
-      -- what is checked of node i, but for sorts
-      pub record IsBuilt (i : ℕ) : Type 0 where
-        pub raised : AreRaised t s heights i
-        pub bottom : class_of s i ≡ class_of s z → IsVariable i
-        pub noted : class_of s i ≢ class_of s z → 0 < height_in s heights i → IsNoted heads i
+  -- what is checked of node i
+  pub record IsBuilt (s : State) (marks : List Bool) (heights : List ℕ) (z i : ℕ) : Type 0 where
+    pub raised : AreRaised t s heights i
+    pub bottom : class_of s i ≡ class_of s z → IsVariable i
+    pub marked : class_of s i ≢ class_of s z → 0 < height_of s heights i → IsMarked marks i
 
 module _ (d : Declarations) (t : NodeTable) (s : State) where
+  -- where an operator heads node i, it is g over arguments that are made alike ls
+  abbrev pub AreOver : ℕ → OpId → List ℕ → Type 0
+  AreOver i g ls = (f : OpId) (ks : List ℕ) → IsOver t.nodes i f ks → (f ≡ g) × AreMadeAlike d (class_of s) f ks ls
+
+  -- an operator heads node m, in the class of node i, and what heads node i is it over arguments that are made alike
+  pub record IsLike (m i : ℕ) : Type 0 where
+    pub operator : OpId
+    pub arguments : List ℕ
+    pub over : IsOver t.nodes m operator arguments
+    pub of : class_of s m ≡ class_of s i
+    pub alike : AreOver i operator arguments
+
+  -- node i is like the node that is noted to head its class
+  pub record IsNoted (heads : List (Option ℕ)) (i : ℕ) : Type 0 where
+    pub member : ℕ
+    pub noted : slice_index_or heads (class_of s i) None ≡ Some member
+    pub like : IsLike member i
+
   -- where an operator heads node j, in the class of node i, its term has the sort
   abbrev pub IsOfSort : ℕ → SortId → ℕ → Type 0
   IsOfSort i sort j = (f : OpId) (ks : List ℕ) → IsOver t.nodes j f ks → class_of s i ≡ class_of s j → HasSort d (term_at t.nodes j) sort
@@ -76,9 +73,19 @@ module _ (d : Declarations) (t : NodeTable) (s : State) where
   abbrev pub AreOfSort : ℕ → SortId → Type 0
   AreOfSort i sort = (j : ℕ) → j < length t.nodes → IsOfSort i sort j
 
-  -- what is checked of the sort of node i
-  abbrev pub IsSorted : List ℕ → (z i : ℕ) → Type 0
-  IsSorted heights z i = (x : Variable) → slice_get t.nodes i ≡ Some (Var x) → class_of s i ≢ class_of s z → 0 < height_in s heights i → AreOfSort i x.sort
+  -- node i is like the node that is noted to head its class, and where it is a variable, what operators head there has its sort
+  pub record IsFine (heads : List (Option ℕ)) (i : ℕ) : Type 0 where
+    pub noted : IsNoted heads i
+    pub sorted : (x : Variable) → slice_get t.nodes i ≡ Some (Var x) → AreOfSort i x.sort
+
+  -- so is each marked node
+  abbrev pub EachIsFine : List (Option ℕ) → List Bool → Type 0
+  EachIsFine heads marks = (k : ℕ) → IsMarked marks k → IsFine heads k
+
+  -- each marked node is so by some noted heads
+  pub record AreFine (marks : List Bool) : Type 0 where
+    pub heads : List (Option ℕ)
+    pub each : EachIsFine heads marks
 
   -- these nodes are of loose classes, and these are heights of such classes
   pub record AreFound (classes : List ℕ) (all : List (List ℕ)) : Type 0 where

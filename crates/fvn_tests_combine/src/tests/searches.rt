@@ -11,8 +11,8 @@ use fvn_terms::NoMemory;
 // on one side alone; there are more summands than the other side can have; a summand is only one of the other side's, or
 // none; a class is inside itself; a class has a summand, and is no identity.
 const SEARCHED: &str = "search A0 A1 l f k = o f l f k => few | 1 4
-search A0 A1 l f k A2 l f k = o f l f k f l f k => few | 3 4
-search A0 A1 l f k A2 l f k A3 l f k = o f l f k f l f k f l f k => few | 6 4
+search A0 A1 l f k A2 l f k = o f l f k f l f k => few | 1 4
+search A0 A1 l f k A2 l f k A3 l f k = o f l f k f l f k f l f k => few | 1 4
 search A0 o k A1 l = f f k A1 h l => few | 1 0
 search A0 o k A1 l o k A2 l = f f k A1 h l f k A2 h l => few | 1 0
 search A0 o k A1 l o k A2 l o k A3 l = f f k A1 h l f k A2 h l f k A3 h l => few | 1 0
@@ -43,11 +43,11 @@ search A0 = A0 h A1 l => few | 1 1
 search A0 = A1 f n; A1 = A0 f k => few | 1 0
 search A0 = A1 o h l; A1 = A0 f m => few | 1 0
 search A0 = A1 o h l; A1 = A2 f m; A2 = A0 f l => few | 1 0
-search A0 A1 l A2 m = A0 A2 l A1 m => few | 30 12
-search A0 A1 l A2 m A0 l = A2 A1 l A0 m A1 l => few | 57 8
+search A0 A1 l A2 m = A0 A2 l A1 m => few | 24 11
+search A0 A1 l A2 m A0 l = A2 A1 l A0 m A1 l => few | 32 8
 search A0 A1 k h A2 l = f h h A3 l => few | 2 1
 search A0 A1 k = A2 f k; A0 A3 l = A4 f l => few | 3 11
-search A0 A1 l A2 m A3 l = f => few | 13 10";
+search A0 A1 l A2 m A3 l = f => few | 9 6";
 
 // The same over sums that are not neutral, with elements: an element is one summand at most. Six elements are split in
 // two in 64 ways, of which each is a choice, and nothing is asked: a row with no room shows both numbers as they are.
@@ -86,10 +86,10 @@ search A0 A1 h A2 i = A3 A4 i => few | 1 8
 search A0 A1 h = A0 A2 i => few | 3 5
 search A0 A1 h A0 i = A1 => few | 7 3
 search A0 A1 h A0 i = A2 A3 i => few | 3 23
-search A0 A1 h A2 i = A0 A2 h A1 i => few | 10 27
-search A0 A1 h A2 A3 h i A0 i = A0 A2 h A1 A3 h i A1 i => few | 129 147
-search A0 A1 i A2 h A3 i = A2 A3 i A0 h A1 i => few | 68 128
-search A0 A1 A2 i h A1 A0 A3 i h i = A2 A3 i => few | 85 113";
+search A0 A1 h A2 i = A0 A2 h A1 i => few | 8 26
+search A0 A1 h A2 A3 h i A0 i = A0 A2 h A1 A3 h i A1 i => few | 119 142
+search A0 A1 i A2 h A3 i = A2 A3 i A0 h A1 i => few | 53 119
+search A0 A1 A2 i h A1 A0 A3 i h i = A2 A3 i => few | 79 108";
 
 #[test]
 fn searches_stay_short(rt: HostRuntime) -> Result<(), NoMemory> {
@@ -106,33 +106,47 @@ search A0 h f A1 l k h f A4 l k = A2 h f A3 l k h f A5 l k => few | 9 5
 search A0 h A1 A2 f l l k = A3 h A4 A5 f l l k => few | 3 2
 search f A1 l o A2 m k = f A3 l o A4 m k => few | 7 4";
 
+// One sort A; constants f, g and j, a sum h with the identity f, a sum i with the identity g, a sum k with none, and a
+// free operator l.
+const SUMS: &str =
+    "A; f : -> A; g : -> A; h : A A -> A [assoc comm id: f]; i : A A -> A [assoc comm id: g]; j : -> A; k : A A -> A [assoc comm]; l : A -> A";
+
+// Sums of two products below a free operator, one product with the same within it, and one variable on both sides: what is
+// known to be a sum is no constant of its operator, so that nothing is asked of it.
+const SEARCHED_OF_SUMS: &str =
+    "general j A1 i j A0 i A2 A3 i h l A3 i h l = j A4 i j A5 i A6 A3 i h l A3 i h l => few | 249 130
+100 200 j A1 i j A0 i A2 A3 i h l A3 i h l = j A4 i j A5 i A6 A3 i h l A3 i h l => complete 5";
+
 #[test]
 fn possible_heads_are_seen(rt: HostRuntime) -> Result<(), NoMemory> {
-    assert_rows(&rt, rt.alloc(), OPERATORS, SEARCHED_OF_HEADS)
+    assert_rows(&rt, rt.alloc(), OPERATORS, SEARCHED_OF_HEADS)?;
+    assert_rows(&rt, rt.alloc(), SUMS, SEARCHED_OF_SUMS)
 }
 
-// One sort A; constants f, g and j, a sum h with the identity f, a sum i with the identity g, and a sum k with none.
-const SUMS: &str =
-    "A; f : -> A; g : -> A; h : A A -> A [assoc comm id: f]; i : A A -> A [assoc comm id: g]; j : -> A; k : A A -> A [assoc comm]";
-
 // Problems that are solved as they stand, beside each other and one within another: each has one most general unifier,
-// under which each variable of a sum is a new one, so that nothing is asked of what only such variables tell apart. Then
-// the same beside a sum that has seven unifiers, and beside sums that share variables, where questions are left.
-const SOLVED_AS_THEY_STAND: &str = "general A0 = A1 A2 h A3 A4 h i A5 j h i => few | 2 2
-general A0 = A1 A2 h A3 A4 h i A5 j h i; A6 = A7 A8 h A9 Ab h i Ac j h i => few | 2 2
-general A0 = A1 A2 h A3 A4 h i A5 j h i; A6 = A7 A8 h A9 Ab h i Ac j h i; Ad = Ae Af h Ag Ah h i Ai j h i => few | 2 2
-general A0 A1 h j A2 h i A3 h j A4 h i = A5 => few | 2 2
-general A0 A1 h j A2 h i A3 h j A4 h i A5 h j A6 h i A7 h j A8 h i = A9 => few | 2 2
-general A0 A1 k = A2 A3 k; A4 = A3 A5 h A6 A7 h i A8 j h i => few | 2 40
-general A0 A1 h = A2 A3 h; A0 A4 i = A2 A5 i => few | 4 24
+// under which each variable of a sum is a new one, so that nothing is asked of what only such variables tell apart. Twelve
+// levels have 37 minimal solutions, which are listed since it is known which classes the other sum heads; six pairs have
+// 729 lists of tags, of which one is tried, since new variables have none. Then the same beside a sum that has seven
+// unifiers, and beside sums that share variables, where questions are left.
+const SOLVED_AS_THEY_STAND: &str = "general A0 = A1 A2 h A3 A4 h i A5 j h i => few | 1 1
+general A0 = A1 A2 h A3 A4 h i A5 j h i; A6 = A7 A8 h A9 Ab h i Ac j h i => few | 1 1
+general A0 = A1 A2 h A3 A4 h i A5 j h i; A6 = A7 A8 h A9 Ab h i Ac j h i; Ad = Ae Af h Ag Ah h i Ai j h i => few | 1 1
+general A0 A1 h j A2 h i A3 h j A4 h i = A5 => few | 1 1
+general A0 A1 h j A2 h i A3 h j A4 h i A5 h j A6 h i A7 h j A8 h i = A9 => few | 1 1
+general A1 A2 h j A3 h i A4 h j A5 h i A6 h j A7 h i A8 h j A9 h i Aa h j Ab h i Ac h j Ad h i Ae h j Af h i Ag h j Ah h i Ai h j Aj h i Ak h j Al h i Am h j An h i Ao h j Ap h i = A0 => few | 1 1
+general A0 = A1 A1 l h A2 i A2 j h i; A3 = A4 A4 l h A5 i A5 j h i; A6 = A7 A7 l h A8 i A8 j h i; A9 = Aa Aa l h Ab i Ab j h i; Ac = Ad Ad l h Ae i Ae j h i; Af = Ag Ag l h Ah i Ah j h i => few | 1 1
+general A0 A1 k = A2 A3 k; A4 = A3 A5 h A6 A7 h i A8 j h i => few | 1 31
+general A0 A1 h = A2 A3 h; A0 A4 i = A2 A5 i => few | 3 20
 100 200 A0 = A1 A2 h A3 A4 h i A5 j h i => complete 1
 100 200 A0 = A1 A2 h A3 A4 h i A5 j h i; A6 = A7 A8 h A9 Ab h i Ac j h i; Ad = Ae Af h Ag Ah h i Ai j h i => complete 1
 100 200 A0 A1 h j A2 h i A3 h j A4 h i A5 h j A6 h i A7 h j A8 h i = A9 => complete 1
+100 200 A1 A2 h j A3 h i A4 h j A5 h i A6 h j A7 h i A8 h j A9 h i Aa h j Ab h i Ac h j Ad h i Ae h j Af h i Ag h j Ah h i Ai h j Aj h i Ak h j Al h i Am h j An h i Ao h j Ap h i = A0 => complete 1
+100 200 A0 = A1 A1 l h A2 i A2 j h i; A3 = A4 A4 l h A5 i A5 j h i; A6 = A7 A7 l h A8 i A8 j h i; A9 = Aa Aa l h Ab i Ab j h i; Ac = Ad Ad l h Ae i Ae j h i; Af = Ag Ag l h Ah i Ah j h i => complete 1
 100 200 A0 A1 k = A2 A3 k; A4 = A3 A5 h A6 A7 h i A8 j h i => complete 7
 100 200 A0 A1 h = A2 A3 h; A0 A4 i = A2 A5 i => complete 3";
 
 // An element is no sum of two: there a variable may not be a new one, and both are found.
-const SOLVED_OF_ELEMENTS: &str = "general B0 B1 t = A2 => few | 2 4
+const SOLVED_OF_ELEMENTS: &str = "general B0 B1 t = A2 => few | 1 2
 100 200 B0 B1 t = A2 => complete 2";
 
 #[test]

@@ -1,5 +1,5 @@
 -- All nodes are in one class.
-use Rattle.std.proofs.Common.{◌<◌, length, arith}
+use Rattle.std.proofs.Common.{arith}
 use Rattle.fvn_combine_nodes.specs.States.{class_of}
 use Rattle.fvn_combine_loose.proofs.Checked.{together_from}
 use Rattle.fvn_combine_loose.proofs.checking.are_together.Goals as goal

@@ -1,5 +1,5 @@
 -- It is in the class, and an operator heads it.
-use Rattle.std.proofs.Common.{◌≡◌, Some, sym, ap, ◌∙◌, refl}
+use Rattle.std.proofs.Common.{Some, sym, ap, ◌∙◌}
 use Rattle.fvn_combine_nodes.specs.declared.table.Node.TheVariants.{App}
 use Rattle.fvn_combine_loose.proofs.checking.is_like.Goals as goal
 

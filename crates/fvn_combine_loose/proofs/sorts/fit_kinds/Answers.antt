@@ -1,5 +1,5 @@
 -- All nodes have the kinds.
-use Rattle.std.proofs.Common.{◌<◌, length, arith}
+use Rattle.std.proofs.Common.{arith}
 use Rattle.fvn_combine_loose.proofs.Ranked.{fit_on_kinds}
 use Rattle.fvn_combine_loose.proofs.sorts.fit_kinds.Goals as goal
 

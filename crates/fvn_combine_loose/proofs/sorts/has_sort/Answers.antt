@@ -1,5 +1,5 @@
 -- It is of those above its own.
-use Rattle.std.proofs.Common.{◌≡◌, Some, sym, ap, ◌∙◌}
+use Rattle.std.proofs.Common.{Some, sym, ap, ◌∙◌}
 use Rattle.std.proofs.lemmas.Option.{slice_get-get_or}
 use Rattle.fvn_combine_nodes.specs.Table.{term_at}
 use Rattle.fvn_combine_loose.proofs.Ranked.{has_above}

@@ -1,9 +1,7 @@
 -- The sort of a variable, and one of an operator over nodes.
-use Rattle.std.proofs.Common.{◌≡◌, map, Some, sym, ap, ◌∙◌, subst}
+use Rattle.std.proofs.Common.{Some, sym, ap, ◌∙◌, subst}
 use Rattle.std.specs.Prelude.{IfSome}
-use Rattle.fvn_terms.specs.Term.{app, pack}
 use Rattle.fvn_terms.specs.Sorts.{HasSort}
-use Rattle.fvn_combine_nodes.specs.Table.{term_at}
 use Rattle.fvn_combine_nodes.specs.declared.table.Node.TheVariants.{App}
 use Rattle.fvn_combine_nodes.proofs.Nodes.{term_at-over}
 use Rattle.fvn_combine_loose.proofs.Ranked.{has_own}

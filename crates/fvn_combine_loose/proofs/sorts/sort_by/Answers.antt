@@ -1,5 +1,5 @@
 -- The nodes have the sorts of its arguments, or the kinds of these.
-use Rattle.std.proofs.Common.{◌≡◌, map, sym, subst}
+use Rattle.std.proofs.Common.{map, sym, subst}
 use Rattle.fvn_terms.specs.declared.plain.SortId.{SortId}
 use Rattle.fvn_terms.specs.Signature.{kind}
 use Rattle.std.specs.Prelude.{List}
