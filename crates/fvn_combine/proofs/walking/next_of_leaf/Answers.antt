@@ -65,6 +65,14 @@ returns-in_err-turn-clause-drawn c =
     subst (λ o. IsCoveredToCome k s o u) (sym c.in_err-turn.ensures.no_memory)
     (variables_kept k s old new c.next_of_current.ensures.same u m, inr (later_alone k s old new c.next_of_current.ensures.same none u m)))
 
+pub returns-then-not-branch-clause-fewer : goal.returns-then-not-branch-clause-fewer
+returns-then-not-branch-clause-fewer c = λ u h.
+    let k = c.args.task.now in
+    let s = c.args.state.now in
+    let new = c.next_of_current.new.opened in
+    let over = subst (IsTurned k s new c.turn.new.opened) c.if-not-branch.true c.in_ok-turn.ensures.turned in
+    c.tags.invariant.fewer u (to_come_was k s c.tags.opened new c.next_of_current.ensures.same c.next_of_current.ensures.fewer u (subst (λ o. IsCoveredToCome k s o u) over.0 h))
+
 pub returns-then-not-branch-clause-drawn : goal.returns-then-not-branch-clause-drawn
 returns-then-not-branch-clause-drawn c = λ u h.
     let k = c.args.task.now in
