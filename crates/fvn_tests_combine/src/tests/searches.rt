@@ -114,7 +114,7 @@ const SUMS: &str =
 // Sums of two products below a free operator, one product with the same within it, and one variable on both sides: what is
 // known to be a sum is no constant of its operator, so that nothing is asked of it.
 const SEARCHED_OF_SUMS: &str =
-    "general j A1 i j A0 i A2 A3 i h l A3 i h l = j A4 i j A5 i A6 A3 i h l A3 i h l => few | 249 130
+    "general j A1 i j A0 i A2 A3 i h l A3 i h l = j A4 i j A5 i A6 A3 i h l A3 i h l => few | 107 50
 100 200 j A1 i j A0 i A2 A3 i h l A3 i h l = j A4 i j A5 i A6 A3 i h l A3 i h l => complete 5";
 
 #[test]
