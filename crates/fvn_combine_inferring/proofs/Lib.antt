@@ -11,3 +11,4 @@ mod HeadsTold
 mod Added
 mod Sizing
 mod EitherHead
+mod Standing

@@ -14,6 +14,7 @@ use crate::heads::Known;
 use crate::rows::row_at;
 use crate::rules::rule;
 use crate::sizes::{Inside, has_several, insides, is_circular};
+use crate::standing_sums::stood_for;
 use fvn_combine_leaves::Reading;
 use fvn_combine_nodes::{State, Table};
 use fvn_signature::Signature;
@@ -90,7 +91,11 @@ fn infer_at(
         Some(row) => {
             let left = row.left.as_slice();
             let right = row.right.as_slice();
-            Ok(rule(sig, table, state, known, addition, insides, left, right))
+            let told = rule(sig, table, state, known, addition, insides, left, right);
+            if told.is_something() {
+                return Ok(told);
+            }
+            stood_for(alloc, sig, table, state, known.sorted, addition, &row)
         }
     }
 }

@@ -15,6 +15,7 @@ mod rows;
 mod rules;
 mod sizes;
 mod sorts;
+mod standing_sums;
 mod summed;
 
 pub use differing::differ;

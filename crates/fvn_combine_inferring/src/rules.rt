@@ -65,7 +65,7 @@ fn are_all(list: &[usize], k: usize) -> bool
 }
 
 // The number that all members of the list are, where it has any.
-fn the_one(list: &[usize]) -> Option<usize>
+pub(crate) fn the_one(list: &[usize]) -> Option<usize>
     ensures some { IfSome result (λ k. 0 < length list.now) }
     ensures all { IfSome result (λ k. All (λ x. x ≡ k) list.now) }
 {
