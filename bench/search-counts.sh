@@ -101,7 +101,7 @@ fn look_further(
     }
     let mut solved = SolvedSystems::new(alloc);
     let lists = match bases(alloc, sig, table, state, reading, &mut solved) {
-        Err(_) => bases_from_last(alloc, sig, table, state, reading, true)?,
+        Err(_) => bases_from_last(alloc, sig, table, state, reading, known.heads.as_slice(), true)?,
         Ok(lists) => Some(lists),
     };
     match lists {
@@ -109,7 +109,7 @@ fn look_further(
             Some(pair) => Ok(question(sig, table, state, known, pair)),
             None => Ok(Looked::Refused),
         },
-        Some(lists) => match question_on_touched(sig, table, state, reading, lists.as_slice()) {
+        Some(lists) => match question_on_touched(sig, table, state, reading, known.heads.as_slice(), lists.as_slice()) {
             Some(pair) => Ok(question(sig, table, state, known, pair)),
             None => opened(alloc, sig, table, state, reading, lists.as_slice()),
         },
