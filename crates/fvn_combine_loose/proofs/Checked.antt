@@ -1,6 +1,6 @@
 -- What is checked of each node makes a class loose.
 use Rattle.std.proofs.Common.{◌≡◌, ◌≢◌, ◌⊎◌, ℕ, zero, suc, ◌<◌, ◌≤◌, Bool, List, [], ◌∷◌, ◌+◌, length, map, get_or, refl, sym, ap, ◌∙◌, subst, inl, inr, arith, Option, Some, None, Contains, slice_get}
-use Rattle.std.specs.Prelude.{Any, max}
+use Rattle.std.specs.Prelude.{All, Any, max}
 use Rattle.std.proofs.lemmas.List.{get_or-map, length-map, same_lists, get_or_default}
 use Rattle.std.proofs.lemmas.Bool.{cases_eq}
 use Rattle.std.proofs.lemmas.Option.{slice_get_within}
@@ -34,6 +34,10 @@ together_from class ks ls n same =
     let r : i < length ls = omega arith in
     get_or-map class ks i 0 d l ∙ same i l ∙ sym (get_or-map class ls i 0 d r)
     )
+
+-- nodes of which none is in a class
+pub absent_from : (class : ℕ → ℕ) (ks : List ℕ) (c : ℕ) → ((p : ℕ) → p < length ks → class (get_or ks p 0) ≢ c) → All (λ k. class k ≢ c) ks
+absent_from class ks c each = λ p k l. subst (λ a. class a ≢ c) (sym (get_or_default ks p k 0 l)) (each p l)
 
 -- what is made alike a third one
 alike_joined : (d : Declarations) (class : ℕ → ℕ) (f : OpId) (ks ls ms : List ℕ) → AreMadeAlike d class f ks ms → AreMadeAlike d class f ls ms → AreMadeAlike d class f ks ls

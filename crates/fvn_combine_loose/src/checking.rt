@@ -100,8 +100,8 @@ pub(crate) fn is_absent(state: &State, ks: &[usize], class: usize) -> bool
     requires { All (λ k. k < length state.now.names) ks.now }
     ensures { IsTrue result → All (λ k. class_of state.now k ≢ class) ks.now }
 {
-    for k in ks {
-        if state.class_of(*k) == class {
+    for i in 0..ks.len() {
+        if state.class_of(ks[i]) == class {
             return false;
         }
     }
