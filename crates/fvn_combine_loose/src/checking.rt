@@ -100,8 +100,8 @@ pub(crate) fn is_absent(state: &State, ks: &[usize], class: usize) -> bool
     requires { All (λ k. k < length state.now.names) ks.now }
     ensures { IsTrue result → All (λ k. class_of state.now k ≢ class) ks.now }
 {
-    for i in 0..ks.len() {
-        if state.class_of(ks[i]) == class {
+    for p in 0..ks.len() {
+        if state.class_of(ks[p]) == class {
             return false;
         }
     }

@@ -6,5 +6,5 @@ use Rattle.fvn_combine_loose.proofs.checking.is_absent.Goals as goal
 
 pub returns : goal.returns
 returns c _ =
-    let end = c.loop-i-test.false in
-    absent_from (class_of c.args.state.now) c.args.ks.now c.args.class (λ p l. c.loop-i.invariant p (omega (arith, l, end)))
+    let end = c.loop-p-test.false in
+    absent_from (class_of c.args.state.now) c.args.ks.now c.args.class (λ k l. c.loop-p.invariant k (omega (arith, l, end)))
