@@ -71,7 +71,7 @@ module _ {d : Declarations} {problem : Problem} {t : NodeTable} {s : State} {z :
           let within = slice_get_within t.nodes m.member (App m.operator m.arguments) m.over in
           let e = same_height g m.member i m.of in
           let args = each_equal d (λ k. apply after (remade g k)) (λ k. apply u (term_at t.nodes k)) m.arguments
-          (λ k c. before k (argument_at g m.member m.operator m.arguments m.over k c n (omega (arith, e, h))) (argument_within g m.member m.operator m.arguments m.over k c))
+          (λ k c. before k (argument_at g i m k c n (omega (arith, e, h))) (argument_within g m.member m.operator m.arguments m.over k c))
           in
           let left : apply after (remade g i) ≡ app m.operator (pack (map (λ k. apply after (remade g k)) m.arguments)) =
           ap (apply after) r.1 ∙ ap (app m.operator) (apply_mapped (remade g) after m.arguments)

@@ -1,19 +1,23 @@
 -- What is checked of each node makes a class loose.
-use Rattle.std.proofs.Common.{◌≡◌, ◌≢◌, ℕ, zero, suc, ◌<◌, ◌≤◌, Bool, List, [], ◌∷◌, ◌+◌, length, map, get_or, refl, sym, ap, ◌∙◌, subst, inl, inr, arith, Option, Some, None}
-use Rattle.std.specs.Prelude.{Any, max}
+use Rattle.std.proofs.Common.{◌≡◌, ◌≢◌, ◌⊎◌, ℕ, zero, suc, ◌<◌, ◌≤◌, Bool, List, [], ◌∷◌, ◌+◌, length, map, get_or, refl, sym, ap, ◌∙◌, subst, inl, inr, arith, Option, Some, None, Contains, slice_get}
+use Rattle.std.specs.Prelude.{All, Any, max}
 use Rattle.std.proofs.lemmas.List.{get_or-map, length-map, same_lists, get_or_default}
 use Rattle.std.proofs.lemmas.Bool.{cases_eq}
 use Rattle.std.proofs.lemmas.Option.{slice_get_within}
+use Rattle.std.proofs.lemmas.List.Elements.{All-contains}
+use Rattle.fvn_base.proofs.Membership.{contains_here, contains_later, map_contains}
+use Rattle.fvn_terms.specs.declared.plain.Var.{Var as Variable}
 use Rattle.fvn_terms.specs.declared.plain.OpId.{OpId}
 use Rattle.fvn_terms.specs.declared.declarations.Declarations.{Declarations}
-use Rattle.fvn_combine_nodes.specs.Table.{NodeTable, IsOver}
+use Rattle.fvn_terms.specs.Sorts.{HasSort}
+use Rattle.fvn_combine_nodes.specs.Table.{NodeTable, IsOver, term_at}
 use Rattle.fvn_combine_nodes.specs.Classes.{AreTogether}
 use Rattle.fvn_combine_nodes.specs.States.{class_of}
 use Rattle.fvn_combine_nodes.specs.declared.state.State.{State}
-use Rattle.fvn_combine_nodes.specs.declared.table.Node.TheVariants.{App}
+use Rattle.fvn_combine_nodes.specs.declared.table.Node.TheVariants.{Var, App}
 use Rattle.fvn_combine_nodes.proofs.Nodes.{over_unique}
-use Rattle.fvn_combine_loose.specs.Loose.{height_of, AreMadeAlike, IsLoose}
-use Rattle.fvn_combine_loose.specs.inner.Checks.{IsHighest, IsRaised, IsNoted, IsBuilt, AreFine}
+use Rattle.fvn_combine_loose.specs.Loose.{height_of, IsRaised, IsIdle, AreMadeAlike, IsLoose}
+use Rattle.fvn_combine_loose.specs.inner.Checks.{IsHighest, IsLike, IsNoted, IsBuilt, AreFine}
 
 -- what is not zero
 pub positive : (n : ℕ) → n ≢ 0 → 0 < n
@@ -30,6 +34,10 @@ together_from class ks ls n same =
     let r : i < length ls = omega arith in
     get_or-map class ks i 0 d l ∙ same i l ∙ sym (get_or-map class ls i 0 d r)
     )
+
+-- nodes of which none is in a class
+pub absent_from : (class : ℕ → ℕ) (ks : List ℕ) (c : ℕ) → ((p : ℕ) → p < length ks → class (get_or ks p 0) ≢ c) → All (λ k. class k ≢ c) ks
+absent_from class ks c each = λ p k l. subst (λ a. class a ≢ c) (sym (get_or_default ks p k 0 l)) (each p l)
 
 -- what is made alike a third one
 alike_joined : (d : Declarations) (class : ℕ → ℕ) (f : OpId) (ks ls ms : List ℕ) → AreMadeAlike d class f ks ms → AreMadeAlike d class f ls ms → AreMadeAlike d class f ks ls
@@ -98,7 +106,28 @@ module _ (s : State) (heights : List ℕ) where
     over = λ stands. h.reached (positive high some);
   }
 
+-- an argument of an idle node is in its class
+idle_own : (t : NodeTable) (s : State) (i : ℕ) (f : OpId) (ks : List ℕ) → IsIdle t s i f ks → (k : ℕ) × (Contains ks k × (class_of s k ≡ class_of s i))
+idle_own t s i f ks idle =
+    let own = class_of s i in
+    let unit = class_of s idle.identity in
+    map_contains (class_of s) ks own
+    (elim idle.classes as (λ _. Contains (map (class_of s) ks) own) [
+      | inl e ↦ subst (λ l. Contains l own) (sym e) (contains_here own (unit ∷ []))
+      | inr e ↦ subst (λ l. Contains l own) (sym e) (contains_later unit (own ∷ []) own (contains_here own []))
+    ])
+
+-- so what stands over nodes of other classes alone is not idle
+head_busy : (d : Declarations) (t : NodeTable) (s : State) (m i : ℕ) (l : IsLike d t s m i) → IsIdle t s m l.operator l.arguments → ⊥
+head_busy d t s m i l idle =
+    let r = idle_own t s m l.operator l.arguments idle in
+    All-contains (λ k. class_of s k ≢ class_of s i) l.arguments r.0 l.others r.1.0 (r.1.1 ∙ l.of)
+
 module _ (d : Declarations) (t : NodeTable) (s : State) (marks : List Bool) (heights : List ℕ) (z : ℕ) where
+  -- nodes i and j are one operator over the same classes, or one of them is idle
+  abbrev AreOneWay : (i j : ℕ) (f g : OpId) (ks ls : List ℕ) → Type 0
+  AreOneWay i j f g ks ls = (IsIdle t s i f ks ⊎ IsIdle t s j g ls) ⊎ ((f ≡ g) × AreMadeAlike d (class_of s) f ks ls)
+
   module _ (fine : AreFine d t s marks) (built : (i : ℕ) → i < length t.nodes → IsBuilt t s marks heights z i) where
     abbrev heads : List (Option ℕ)
     heads = fine.heads
@@ -106,23 +135,20 @@ module _ (d : Declarations) (t : NodeTable) (s : State) (marks : List Bool) (hei
     at_over : (i : ℕ) (f : OpId) (ks : List ℕ) → IsOver t.nodes i f ks → IsBuilt t s marks heights z i
     at_over i f ks is = built i (slice_get_within t.nodes i (App f ks) is)
 
-    raised_over : (i : ℕ) (f : OpId) (ks : List ℕ) → IsOver t.nodes i f ks → IsRaised s heights i ks
-    raised_over i f ks is = (at_over i f ks is).raised f ks is
+    -- what an operator heads in z's class is idle
+    open_over : (i : ℕ) (f : OpId) (ks : List ℕ) → IsOver t.nodes i f ks → class_of s i ≡ class_of s z → IsIdle t s i f ks
+    open_over i f ks is e = (at_over i f ks is).bottom e f ks is
 
-    -- what an operator heads is in another class than z
-    elsewhere : (i : ℕ) (f : OpId) (ks : List ℕ) → IsOver t.nodes i f ks → class_of s i ≢ class_of s z
-    elsewhere i f ks is e = (at_over i f ks is).bottom e f ks is
-
-    noted_over : (i : ℕ) (f : OpId) (ks : List ℕ) → IsOver t.nodes i f ks → 0 < height_of s heights i → IsNoted d t s heads i
-    noted_over i f ks is stands = (fine.each i ((at_over i f ks is).marked (elsewhere i f ks is) stands)).noted
+    noted_over : (i : ℕ) (f : OpId) (ks : List ℕ) → IsOver t.nodes i f ks → class_of s i ≢ class_of s z → 0 < height_of s heights i → IsNoted d t s heads i
+    noted_over i f ks is other stands = (fine.each i ((at_over i f ks is).marked other stands)).noted
 
     -- what is like one node is alike
-    same_way : (i j : ℕ) (f g : OpId) (ks ls : List ℕ) → IsOver t.nodes i f ks → IsOver t.nodes j g ls → class_of s i ≡ class_of s j → IsNoted d t s heads i → IsNoted d t s heads j → (f ≡ g) × AreMadeAlike d (class_of s) f ks ls
-    same_way i j f g ks ls a b e p q =
+    both_alike : (i j : ℕ) (f g : OpId) (ks ls : List ℕ) (e : class_of s i ≡ class_of s j) (p : IsNoted d t s heads i) (q : IsNoted d t s heads j)
+        → (f ≡ p.like.operator) × AreMadeAlike d (class_of s) f ks p.like.arguments → (g ≡ q.like.operator) × AreMadeAlike d (class_of s) g ls q.like.arguments
+        → (f ≡ g) × AreMadeAlike d (class_of s) f ks ls
+    both_alike i j f g ks ls e p q l r =
         let one : p.member ≡ q.member = some_same (sym p.noted ∙ ap (λ c. get_or heads c None) e ∙ q.noted) in
         let u = over_unique t.nodes p.member p.like.operator q.like.operator p.like.arguments q.like.arguments p.like.over (subst (λ m. IsOver t.nodes m q.like.operator q.like.arguments) (sym one) q.like.over) in
-        let l = p.like.alike f ks a in
-        let r = q.like.alike g ls b in
         let one_operator : f ≡ g = l.0 ∙ u.0 ∙ sym r.0 in
         let of_f : AreMadeAlike d (class_of s) f ls q.like.arguments = subst (λ o. AreMadeAlike d (class_of s) o ls q.like.arguments) (sym one_operator) r.1 in
         let both = subst (AreMadeAlike d (class_of s) f ls) (sym u.1) of_f in
@@ -131,21 +157,42 @@ module _ (d : Declarations) (t : NodeTable) (s : State) (marks : List Bool) (hei
         some_same : {m n : ℕ} → Some m ≡ Some n → m ≡ n
         some_same e = cc
 
+    same_way : (i j : ℕ) (f g : OpId) (ks ls : List ℕ) → IsOver t.nodes i f ks → IsOver t.nodes j g ls → class_of s i ≡ class_of s j → IsNoted d t s heads i → IsNoted d t s heads j → AreOneWay i j f g ks ls
+    same_way i j f g ks ls a b e p q = elim (p.like.alike f ks a) as (λ _. AreOneWay i j f g ks ls) [
+      | inl idle ↦ inl (inl idle)
+      | inr l ↦ elim (q.like.alike g ls b) as (λ _. AreOneWay i j f g ks ls) [
+        | inl idle ↦ inl (inr idle)
+        | inr r ↦ inr (both_alike i j f g ks ls e p q l r)
+      ]
+    ]
+
+    made_alike : (i j : ℕ) (f g : OpId) (ks ls : List ℕ) → IsOver t.nodes i f ks → IsOver t.nodes j g ls → class_of s i ≡ class_of s j → 0 < height_of s heights i → AreOneWay i j f g ks ls
+    made_alike i j f g ks ls a b e stands = elim (cases_eq (class_of s i) (class_of s z)) as (λ _. AreOneWay i j f g ks ls) [
+      | inl same ↦ inl (inl (open_over i f ks a same))
+      | inr other ↦
+          same_way i j f g ks ls a b e (noted_over i f ks a other stands)
+          (noted_over j g ls b (λ q. other (e ∙ q)) (subst (λ c. 0 < get_or heights c 0) e stands))
+    ]
+
+    sorted_alike : (i j : ℕ) (x : Variable) (f : OpId) (ks : List ℕ) → slice_get t.nodes i ≡ Some (Var x) → IsOver t.nodes j f ks → class_of s i ≡ class_of s j → 0 < height_of s heights j
+        → IsIdle t s j f ks ⊎ HasSort d (term_at t.nodes j) x.sort
+    sorted_alike i j x f ks is over e stands = elim (cases_eq (class_of s j) (class_of s z)) as (λ _. IsIdle t s j f ks ⊎ HasSort d (term_at t.nodes j) x.sort) [
+      | inl same ↦ inl (open_over j f ks over same)
+      | inr other ↦
+          let mark = (built i (slice_get_within t.nodes i (Var x) is)).marked (λ same. other (sym e ∙ same)) (subst (λ c. 0 < get_or heights c 0) (sym e) stands) in
+          (fine.each i mark).sorted x is j (slice_get_within t.nodes j (App f ks) over) f ks over e
+    ]
+
   -- so z's class is loose
   pub loose_from : AreFine d t s marks → z < length t.nodes → 0 < height_of s heights z → ((i : ℕ) → i < length t.nodes → IsBuilt t s marks heights z i) → IsLoose d t s z heights
   loose_from fine within stands built = record {
     within = within;
     stands = stands;
-    open_class = λ h. elsewhere fine built h.member h.operator h.arguments h.over h.of;
-    upward = λ i f ks is. (raised_over fine built i f ks is).upward;
-    lower = λ i f ks is. (raised_over fine built i f ks is).lower;
-    over = λ i f ks is. (raised_over fine built i f ks is).over;
+    open_class = open_over fine built;
+    raised = λ i f ks is. (at_over fine built i f ks is).raised f ks is;
     headed = λ i l stands other.
         let n = (fine.each i ((built i l).marked other stands)).noted in
-        record { member = n.member; operator = n.like.operator; arguments = n.like.arguments; over = n.like.over; of = n.like.of };
-    alike = λ i j f g ks ls a b e stands.
-        same_way fine built i j f g ks ls a b e (noted_over fine built i f ks a stands) (noted_over fine built j g ls b (subst (λ c. 0 < get_or heights c 0) e stands));
-    sorts = λ i j x f ks is over e stands.
-        let mark = (built i (slice_get_within t.nodes i _ is)).marked (λ same. elsewhere fine built j f ks over (sym e ∙ same)) (subst (λ c. 0 < get_or heights c 0) (sym e) stands) in
-        (fine.each i mark).sorted x is j (slice_get_within t.nodes j _ over) f ks over e;
+        record { member = n.member; operator = n.like.operator; arguments = n.like.arguments; over = n.like.over; of = n.like.of; busy = head_busy d t s n.member i n.like };
+    alike = made_alike fine built;
+    sorts = sorted_alike fine built;
   }

@@ -1,6 +1,5 @@
 -- Variables in the terms of nodes are variables of the problem, and no higher than the nodes.
-use Rattle.std.proofs.Common.{◌≡◌, ℕ, zero, suc, ◌+◌, ◌<◌, ◌≤◌, List, length, ap, ◌∙◌, sym, subst, inl, inr, arith, Contains, Some, slice_get}
-use Rattle.std.proofs.lemmas.Bool.{cases_lt}
+use Rattle.std.proofs.Common.{◌≡◌, ℕ, zero, suc, ◌+◌, ◌<◌, ◌≤◌, List, length, ap, ◌∙◌, sym, subst, arith, Contains, Some, slice_get}
 use Rattle.std.proofs.lemmas.List.Elements.{All-contains}
 use Rattle.fvn_terms.specs.declared.plain.Var.{Var as Variable}
 use Rattle.fvn_terms.specs.declared.plain.OpId.{OpId}
@@ -14,9 +13,9 @@ use Rattle.fvn_combine_nodes.specs.declared.table.Node.{Node}
 use Rattle.fvn_combine_nodes.specs.declared.table.Node.TheVariants.{Var, App}
 use Rattle.fvn_combine_nodes.proofs.Nodes.{node_at, term_at-variable, term_at-over}
 use Rattle.fvn_combine_nodes.proofs.NodesOf.{node_variable}
-use Rattle.fvn_combine_loose.specs.Loose.{height_of}
+use Rattle.fvn_combine_loose.specs.Loose.{height_of, IsHeaded}
 use Rattle.fvn_combine_loose.proofs.Mapped.{among_mapped}
-use Rattle.fvn_combine_loose.proofs.Setting.{Setting, argument_within, argument_lower}
+use Rattle.fvn_combine_loose.proofs.Setting.{Setting, argument_within, argument_at, argument_up_to}
 
 -- the node of a variable, no higher than h
 pub record NodeUpTo (d : Declarations) (t : NodeTable) (s : State) (z : ℕ) (heights : List ℕ) (x : Variable) (h : ℕ) : Type 0 where
@@ -51,23 +50,16 @@ module _ {d : Declarations} {problem : Problem} {t : NodeTable} {s : State} {z :
           record { number = i; is = is ∙ ap (λ w. Some (Var w)) (sym same); up_to = omega arith }
       go (App f ks) is before =
           let r = in_argument x i f ks is (λ k c. before k (All-contains (λ k. k < i) ks k (g.made.ordered i f ks is) c) (argument_within g i f ks is k c)) o in
-          raised x (height r.0) (height i)
-          (elim (cases_lt 0 (height r.0)) as (λ _. height r.0 ≤ height i) [
-            | inl st ↦ let lower = argument_lower g i f ks is r.0 r.1.0 st in omega (arith, lower)
-            | inr le ↦ omega (arith, le)
-          ])
-          r.1.1
+          raised x (height r.0) (height i) (argument_up_to g i f ks is r.0 r.1.0) r.1.1
 
-  -- what an operator heads is higher than its variables, where it is not at the bottom
-  pub below_over : (i : ℕ) (f : OpId) (ks : List ℕ) → IsOver t.nodes i f ks → (n : ℕ) → 0 < height i → height i ≤ n + 1 → (x : Variable) → Occurs x (term_at t.nodes i) → UpTo x n
-  below_over i f ks over n stands h x o =
-      let r = in_argument x i f ks over (λ k c. deep (k + 1) k (omega arith) (argument_within g i f ks over k c) x) o in
-      raised x (height r.0) n
-      (elim (cases_lt 0 (height r.0)) as (λ _. height r.0 ≤ n) [
-        | inl st ↦ let lower = argument_lower g i f ks over r.0 r.1.0 st in omega (arith, lower, h)
-        | inr le ↦ omega (arith, le)
-      ])
-      r.1.1
+  -- what heads a class and is not idle is higher than its variables, where it is not at the bottom
+  pub below_over : (i : ℕ) (m : IsHeaded d t s i) (n : ℕ) → height m.member ≤ n + 1 → (x : Variable) → Occurs x (term_at t.nodes m.member) → UpTo x n
+  below_over i m n h x o =
+      let r =
+      in_argument x m.member m.operator m.arguments m.over
+      (λ k c. deep (k + 1) k (omega arith) (argument_within g m.member m.operator m.arguments m.over k c) x) o
+      in
+      raised x (height r.0) n (argument_at g i m r.0 r.1.0 n h) r.1.1
 
   -- a variable in the term of a node is one of the problem
   pub node_variables : (i : ℕ) → i < length t.nodes → (x : Variable) → Occurs x (term_at t.nodes i) → Contains (variables_of problem) x

@@ -94,10 +94,15 @@ module _ {d : Declarations} {problem : Problem} {t : NodeTable} {s : State} {z :
             let l = slice_get_within t.nodes j (App m.operator m.arguments) m.over in
             let e = same_height g j i m.of in
             let stands : 0 < height j = omega (arith, e, st) in
-            let whole : HasSort d (term_at t.nodes j) x.sort = g.loose.sorts i j x m.operator m.arguments is m.over (sym m.of) stands in
+            let whole : HasSort d (term_at t.nodes j) x.sort =
+            elim (g.loose.sorts i j x m.operator m.arguments is m.over (sym m.of) stands) as (λ _. HasSort d (term_at t.nodes j) x.sort) [
+              | inl idle ↦ absurd (m.busy idle)
+              | inr has ↦ has
+            ]
+            in
             let lower : (y : Variable) → Occurs y (term_at t.nodes j) → HasSort d (loosened g y) y.sort =
             λ y o.
-            let b : NodeUpTo d t s z heights y n = below_over g j m.operator m.arguments m.over n stands (omega (arith, e, h)) y o in
+            let b : NodeUpTo d t s z heights y n = below_over g i m n (omega (arith, e, h)) y o in
             subst (λ v. HasSort d v y.sort) (sym (loosened_node g b.number y b.is)) (before b.number y b.is b.up_to)
             in
             equal_sort d x.sort (BEqual-trans d (node_value g j l) (equal_is d (remade_same g j i m.of))) (loosened_sort (term_at t.nodes j) lower x.sort whole)

@@ -7,6 +7,7 @@ mod NewVariable
 mod Worths
 mod Remade
 mod After
+mod Idle
 mod Loosened
 mod Admitted
 mod GivenSorts

@@ -25,9 +25,10 @@ use Rattle.fvn_combine_nodes.proofs.NodesOf.{variable_place, node_variable}
 use Rattle.fvn_combine_loose.specs.Loose.{height_of}
 use Rattle.fvn_combine_loose.proofs.Decisions.{listed_or_not}
 use Rattle.fvn_combine_loose.proofs.Mapped.{equal_is, apply_mapped, each_equal}
-use Rattle.fvn_combine_loose.proofs.Setting.{Setting, argument_within}
+use Rattle.fvn_combine_loose.proofs.Setting.{Setting, argument_within, argument_up_to}
 use Rattle.fvn_combine_loose.proofs.Remade.{remade, remade_same, remade_low, remade_over}
 use Rattle.fvn_combine_loose.proofs.After.{remade_kinded}
+use Rattle.fvn_combine_loose.proofs.Idle.{idle_value}
 
 module _ {d : Declarations} {problem : Problem} {t : NodeTable} {s : State} {z : ℕ} {heights : List ℕ} {u : Substitution} (g : Setting d problem t s z heights u) where
   abbrev height : ℕ → ℕ
@@ -65,14 +66,14 @@ module _ {d : Declarations} {problem : Problem} {t : NodeTable} {s : State} {z :
 
   -- where it does not stand in the whole, the loose class stands in no argument
   low_argument : (i : ℕ) (f : OpId) (ks : List ℕ) → IsOver t.nodes i f ks → height i ≡ 0 → (k : ℕ) → Contains ks k → height k ≡ 0
-  low_argument i f ks over low k c = elim (cases_lt 0 (height k)) as (λ _. height k ≡ 0) [
-    | inl st ↦ absurd (let up = g.loose.upward i f ks over (c.0, k, c.1, c.2, st) in omega (arith, up, low))
-    | inr le ↦ omega (arith, le)
-  ]
+  low_argument i f ks over low k c = let l = argument_up_to g i f ks over k c in omega (arith, l, low)
 
   over_remade : (i : ℕ) (f : OpId) (ks : List ℕ) → IsOver t.nodes i f ks → i < length t.nodes → BEqual d (app f (pack (map (remade g) ks))) (remade g i)
   over_remade i f ks over l = elim (cases_lt 0 (height i)) as (λ _. BEqual d (app f (pack (map (remade g) ks))) (remade g i)) [
-    | inl st ↦ BEqual-sym d (remade_over g i f ks over l st)
+    | inl st ↦ elim (remade_over g i f ks over l st) as (λ _. BEqual d (app f (pack (map (remade g) ks))) (remade g i)) [
+      | inl idle ↦ idle_value g i f ks over l idle
+      | inr e ↦ BEqual-sym d e
+    ]
     | inr le ↦
         let low : height i ≡ 0 = omega (arith, le) in
         let args = each_equal d (remade g) (λ k. apply u (term_at t.nodes k)) ks

@@ -1,5 +1,5 @@
 -- The new values of nodes: those of their classes.
-use Rattle.std.proofs.Common.{◌≡◌, ◌≢◌, ℕ, zero, suc, ◌<◌, ◌≤◌, List, [], ◌∷◌, length, map, refl, ap, ◌∙◌, sym, subst, inl, inr, arith, Contains}
+use Rattle.std.proofs.Common.{◌≡◌, ◌≢◌, ◌⊎◌, ℕ, zero, suc, ◌<◌, ◌≤◌, List, [], ◌∷◌, length, map, refl, ap, ◌∙◌, sym, subst, inl, inr, arith, Contains}
 use Rattle.std.proofs.lemmas.Bool.{cases_order}
 use Rattle.fvn_base.specs.Decided.{Decided}
 use Rattle.fvn_terms.specs.declared.plain.OpId.{OpId}
@@ -13,9 +13,9 @@ use Rattle.fvn_terms.proofs.Equal.{BEqual-trans}
 use Rattle.fvn_combine_nodes.specs.Table.{NodeTable, IsOver, term_at}
 use Rattle.fvn_combine_nodes.specs.States.{class_of}
 use Rattle.fvn_combine_nodes.specs.declared.state.State.{State}
-use Rattle.fvn_combine_loose.specs.Loose.{height_of, AreMadeAlike, IsHeaded}
+use Rattle.fvn_combine_loose.specs.Loose.{height_of, IsIdle, AreMadeAlike, IsHeaded}
 use Rattle.fvn_combine_loose.proofs.Mapped.{equal_is, mapped_among}
-use Rattle.fvn_combine_loose.proofs.Setting.{Setting, class_within, class_again, one_value, same_height, argument_within, argument_at}
+use Rattle.fvn_combine_loose.proofs.Setting.{Setting, class_within, class_again, one_value, same_height, argument_within, head_raised, argument_at}
 use Rattle.fvn_combine_loose.proofs.NewVariable.{new, not_in_old}
 use Rattle.fvn_combine_loose.proofs.Worths.{worth, worth_low, worth_bottom, worth_headed}
 
@@ -57,13 +57,14 @@ module _ {d : Declarations} {problem : Problem} {t : NodeTable} {s : State} {z :
       let again = class_again g i l in
       let e = same_height g (class_of s i) i again in
       let h = worth_headed g (class_of s i) (class_within g i l) (omega (arith, e, stands)) (λ f. other (sym again ∙ f)) in
-      (record { member = h.0.member; operator = h.0.operator; arguments = h.0.arguments; over = h.0.over; of = h.0.of ∙ again }, h.1)
+      (record { member = h.0.member; operator = h.0.operator; arguments = h.0.arguments; over = h.0.over; of = h.0.of ∙ again; busy = h.0.busy }, h.1)
 
   remade_classes : (ks : List ℕ) → map remade ks ≡ map (worth g) (map (class_of s) ks)
   remade_classes [] = refl
   remade_classes (k ∷ ks) = ap (λ ts. remade k ∷ ts) (remade_classes ks)
 
-  over_classes : (f : OpId) (ks cs : List ℕ) → map (class_of s) ks ≡ cs → BEqual d (app f (pack (map remade ks))) (app f (pack (map (worth g) cs)))
+  -- the operator over arguments of these classes
+  pub over_classes : (f : OpId) (ks cs : List ℕ) → map (class_of s) ks ≡ cs → BEqual d (app f (pack (map remade ks))) (app f (pack (map (worth g) cs)))
   over_classes f ks cs e = equal_is d (ap (λ ts. app f (pack ts)) (remade_classes ks ∙ ap (map (worth g)) e))
 
   classes_over : (f : OpId) (ks cs : List ℕ) → map (class_of s) ks ≡ cs → BEqual d (app f (pack (map (worth g) cs))) (app f (pack (map remade ks)))
@@ -79,13 +80,29 @@ module _ {d : Declarations} {problem : Problem} {t : NodeTable} {s : State} {z :
       exchanged : (v r : Term) → BEqual d (app f (pack (v ∷ r ∷ []))) (app f (pack (r ∷ v ∷ [])))
       exchanged v r = step (here (inl (swap commutes))) stop
 
-  -- that of an operator in which the loose class stands is the operator over the new values of its arguments, up to the axioms
-  pub remade_over : (i : ℕ) (f : OpId) (ks : List ℕ) → IsOver t.nodes i f ks → i < length t.nodes → 0 < height i → BEqual d (remade i) (app f (pack (map remade ks)))
-  remade_over i f ks over l stands =
-      let r = remade_headed i l stands (λ e. g.loose.open_class record { member = i; operator = f; arguments = ks; over = over; of = e }) in
+  -- that of an operator in which the loose class stands is the operator over the new values of its arguments, up to the axioms, where
+  -- the node is not idle
+  abbrev IsRemade : ℕ → OpId → List ℕ → Type 0
+  IsRemade i f ks = IsIdle t s i f ks ⊎ BEqual d (remade i) (app f (pack (map remade ks)))
+
+  headed_over : (i : ℕ) (f : OpId) (ks : List ℕ) → IsOver t.nodes i f ks → i < length t.nodes → 0 < height i → class_of s i ≢ class_of s z → IsRemade i f ks
+  headed_over i f ks over l stands other =
+      let r = remade_headed i l stands other in
       let e = same_height g r.0.member i r.0.of in
-      let a = g.loose.alike r.0.member i r.0.operator f r.0.arguments ks r.0.over over r.0.of (omega (arith, e, stands)) in
-      BEqual-trans d (equal_is d r.1) (BEqual-trans d (remade_alike r.0.operator r.0.arguments ks a.1) (equal_is d (ap (λ o. app o (pack (map remade ks))) a.0)))
+      elim (g.loose.alike r.0.member i r.0.operator f r.0.arguments ks r.0.over over r.0.of (omega (arith, e, stands))) as (λ _. IsRemade i f ks) [
+        | inl one ↦ elim one as (λ _. IsRemade i f ks) [
+          | inl head ↦ absurd (r.0.busy head)
+          | inr idle ↦ inl idle
+        ]
+        | inr a ↦
+            inr (BEqual-trans d (equal_is d r.1) (BEqual-trans d (remade_alike r.0.operator r.0.arguments ks a.1) (equal_is d (ap (λ o. app o (pack (map remade ks))) a.0))))
+      ]
+
+  pub remade_over : (i : ℕ) (f : OpId) (ks : List ℕ) → IsOver t.nodes i f ks → i < length t.nodes → 0 < height i → IsIdle t s i f ks ⊎ BEqual d (remade i) (app f (pack (map remade ks)))
+  remade_over i f ks over l stands = elim (same_or_other (class_of s i) (class_of s z)) as (λ _. IsRemade i f ks) [
+    | inl e ↦ inl (g.loose.open_class i f ks over e)
+    | inr other ↦ headed_over i f ks over l stands other
+  ]
 
   -- the new variable stands in the new values of those in which the loose class stands, and in no others
   pub new_stands : (n i : ℕ) → height i ≤ n → i < length t.nodes → 0 < height i → Occurs (new g) (remade i)
@@ -97,10 +114,10 @@ module _ {d : Declarations} {problem : Problem} {t : NodeTable} {s : State} {z :
       go (inr other) before =
           let r = remade_headed i l stands other in
           let e = same_height g r.0.member i r.0.of in
-          let some = g.loose.over r.0.member r.0.operator r.0.arguments r.0.over (omega (arith, e, stands)) in
+          let some = (head_raised g i r.0).over (omega (arith, e, stands)) in
           let k = some.1 in
           let c : Contains r.0.arguments k = (some.0, some.2, some.3) in
-          let low = argument_at g r.0.member r.0.operator r.0.arguments r.0.over k c n (omega (arith, e, h)) in
+          let low = argument_at g i r.0 k c n (omega (arith, e, h)) in
           subst (Occurs (new g)) (sym r.1) (mapped_among remade (new g) r.0.arguments k c (before k low (argument_within g r.0.member r.0.operator r.0.arguments r.0.over k c) some.4))
 
   pub new_stands_not : (i : ℕ) → i < length t.nodes → height i ≡ 0 → Occurs (new g) (remade i) → ⊥

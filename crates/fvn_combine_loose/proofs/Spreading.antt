@@ -41,10 +41,12 @@ module _ {d : Declarations} {problem : Problem} {t : NodeTable} {s : State} {z :
   value_low : (i : ℕ) → i < length t.nodes → height i ≡ 0 → value_at d (loosened g) t.nodes i ≡ value_at d u t.nodes i
   value_low i l low = canon_respects d (node_value g i l) ∙ sym (canon_respects d (remade_low g i l low))
 
-  -- the loose class stands in no other one that no operator heads
+  -- the loose class stands in no other one that only idle nodes head
   open_low : (i : ℕ) → IsLooseClass d t s i → class_of s i ≢ class_of s z → height i ≡ 0
   open_low i own other = elim (cases_lt 0 (height i)) as (λ _. height i ≡ 0) [
-    | inl stands ↦ absurd (own.loose.open_class (g.loose.headed i own.loose.within stands other))
+    | inl stands ↦
+        let m = g.loose.headed i own.loose.within stands other in
+        absurd (m.busy (own.loose.open_class m.member m.operator m.arguments m.over m.of))
     | inr le ↦ omega (arith, le)
   ]
 

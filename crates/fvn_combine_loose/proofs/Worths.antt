@@ -79,7 +79,7 @@ module _ {d : Declarations} {problem : Problem} {t : NodeTable} {s : State} {z :
           let w = argument_within g m.member m.operator m.arguments m.over k c in
           let e = same_height g (class_of s k) k (class_again g k w) in
           let f = same_height g m.member i m.of in
-          let a = argument_at g m.member m.operator m.arguments m.over k c n (omega (arith, f, h)) in
+          let a = argument_at g i m k c n (omega (arith, f, h)) in
           before (class_of s k) (omega (arith, e, a))))
 
   -- the term of class i
@@ -106,7 +106,7 @@ module _ {d : Declarations} {problem : Problem} {t : NodeTable} {s : State} {z :
       go (inl (inl out)) = absurd (omega (arith, out, l))
       go (inl (inr low)) = absurd (let e = same_height g i z same in let st = g.loose.stands in omega (arith, low, e, st))
       go (inr (st, inl e)) = refl
-      go (inr (st, inr m)) = absurd (g.loose.open_class record { member = m.member; operator = m.operator; arguments = m.arguments; over = m.over; of = m.of ∙ same })
+      go (inr (st, inr m)) = absurd (m.busy (g.loose.open_class m.member m.operator m.arguments m.over (m.of ∙ same)))
 
   -- that of each other class in which it stands is a member's operator over the terms of the arguments' classes
   pub worth_headed : (i : ℕ) → i < length t.nodes → 0 < height i → class_of s i ≢ class_of s z → (m : IsHeaded d t s i) × (worth i ≡ app m.operator (pack (map (λ k. worth (class_of s k)) m.arguments)))

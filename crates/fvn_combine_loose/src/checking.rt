@@ -1,9 +1,9 @@
 //! Whether guessed heights are those of the classes in which a loose class stands.
-ghost use Rattle.std.specs.Prelude.{◌≡◌, ℕ, ◌<◌, length, slice_index_or, None, All, IsTrue, IfOk};
+ghost use Rattle.std.specs.Prelude.{◌≡◌, ◌≢◌, ◌⊎◌, ℕ, ◌<◌, [], ◌∷◌, length, map, slice_index_or, None, All, IsTrue, IfOk};
 ghost use Rattle.fvn_combine_nodes.specs.Classes.{AreTogether};
 ghost use Rattle.fvn_combine_nodes.specs.States.{IsClosed, class_of};
-ghost use Rattle.fvn_combine_loose.specs.Loose.{height_of, AreCrosswise, AreMadeAlike, IsLoose};
-ghost use Rattle.fvn_combine_loose.specs.inner.Checks.{IsHighest, IsRaised, AreRaised, IsVariable, AreOver, IsLike, IsNoted, IsMarked, IsBuilt, AreOfSort, IsOfSort, IsFine, AreFine};
+ghost use Rattle.fvn_combine_loose.specs.Loose.{height_of, IsRaised, IsIdle, AreOf, AreCrosswise, AreMadeAlike, IsLoose};
+ghost use Rattle.fvn_combine_loose.specs.inner.Checks.{IsHighest, AreRaised, IsOpenNode, AreOver, IsLike, IsNoted, IsMarked, IsBuilt, AreOfSort, IsOfSort, IsFine, AreFine};
 ghost use Rattle.fvn_combine_loose.specs.inner.NodeSorts.{HaveSorts};
 
 use crate::sorts::has_sort;
@@ -46,6 +46,68 @@ pub(crate) fn highest(state: &State, heights: &[usize], ks: &[usize]) -> usize
     high
 }
 
+// Whether these are two nodes, the first one of class a and the second one of class b.
+fn are_of(state: &State, ks: &[usize], a: usize, b: usize) -> bool
+    requires { All (λ k. k < length state.now.names) ks.now }
+    ensures { IsTrue result → map (class_of state.now) ks.now ≡ a ∷ b ∷ [] }
+{
+    if ks.len() != 2 {
+        return false;
+    }
+    if state.class_of(ks[0]) != a {
+        return false;
+    }
+    state.class_of(ks[1]) == b
+}
+
+// Whether these are two nodes, one in the class of node i and the other in that of node u.
+fn are_beside(state: &State, ks: &[usize], i: usize, u: usize) -> bool
+    requires all { All (λ k. k < length state.now.names) ks.now }
+    requires own { i < length state.now.names }
+    requires other { u < length state.now.names }
+    ensures { IsTrue result → AreOf (class_of state.now) ks.now (class_of state.now i) (class_of state.now u) }
+{
+    let own = state.class_of(i);
+    let other = state.class_of(u);
+    if are_of(state, ks, own, other) {
+        return true;
+    }
+    are_of(state, ks, other, own)
+}
+
+// Whether node i, which is f over the nodes ks, has the value of its class whatever that is: one of these is in the class of f's
+// identity, and the other one in that of node i.
+pub(crate) fn is_idle(table: &Table, state: &State, i: usize, f: OpId, ks: &[usize]) -> bool
+    requires whole { length state.now.names ≡ length table.now.nodes }
+    requires within { i < length table.now.nodes }
+    requires all { All (λ k. k < length state.now.names) ks.now }
+    ensures { IsTrue result → IsIdle table.now state.now i f ks.now }
+{
+    table.recall_well_made();
+    for (g, u) in table.units() {
+        if *g != f {
+            continue;
+        }
+        if are_beside(state, ks, i, *u) {
+            return true;
+        }
+    }
+    false
+}
+
+// Whether none of the nodes is in this class.
+pub(crate) fn is_absent(state: &State, ks: &[usize], class: usize) -> bool
+    requires { All (λ k. k < length state.now.names) ks.now }
+    ensures { IsTrue result → All (λ k. class_of state.now k ≢ class) ks.now }
+{
+    for p in 0..ks.len() {
+        if state.class_of(ks[p]) == class {
+            return false;
+        }
+    }
+    true
+}
+
 // Whether the class of node i is above those of the nodes ks in which the bottom stands, and it stands in none of them
 // where it does not stand in it.
 fn is_raised(state: &State, heights: &[usize], i: usize, ks: &[usize]) -> bool
@@ -61,6 +123,26 @@ fn is_raised(state: &State, heights: &[usize], i: usize, ks: &[usize]) -> bool
     high < own
 }
 
+// The same, or whether node i, which is f over the nodes ks, is idle.
+fn is_idle_or_raised(
+    table: &Table,
+    state: &State,
+    heights: &[usize],
+    i: usize,
+    f: OpId,
+    ks: &[usize],
+) -> bool
+    requires whole { length state.now.names ≡ length table.now.nodes }
+    requires within { i < length table.now.nodes }
+    requires all { All (λ k. k < length state.now.names) ks.now }
+    ensures { IsTrue result → IsIdle table.now state.now i f ks.now ⊎ IsRaised state.now heights.now i ks.now }
+{
+    if is_raised(state, heights, i, ks) {
+        return true;
+    }
+    is_idle(table, state, i, f, ks)
+}
+
 // The same of node i and its arguments.
 fn are_raised(table: &Table, state: &State, heights: &[usize], i: usize) -> bool
     requires whole { length state.now.names ≡ length table.now.nodes }
@@ -70,18 +152,20 @@ fn are_raised(table: &Table, state: &State, heights: &[usize], i: usize) -> bool
     table.recall_well_made();
     match table.node(i) {
         Node::Var(_) => true,
-        Node::App(_, ks) => is_raised(state, heights, i, ks.as_slice()),
+        Node::App(f, ks) => is_idle_or_raised(table, state, heights, i, *f, ks.as_slice()),
     }
 }
 
-// Whether node i is a variable.
-fn is_variable(table: &Table, i: usize) -> bool
-    requires { i < length table.now.nodes }
-    ensures { IsTrue result → IsVariable table.now i }
+// Whether node i is a variable, or idle.
+fn is_open_node(table: &Table, state: &State, i: usize) -> bool
+    requires whole { length state.now.names ≡ length table.now.nodes }
+    requires within { i < length table.now.nodes }
+    ensures { IsTrue result → IsOpenNode table.now state.now i }
 {
+    table.recall_well_made();
     match table.node(i) {
         Node::Var(_) => true,
-        Node::App(_, _) => false,
+        Node::App(f, ks) => is_idle(table, state, i, *f, ks.as_slice()),
     }
 }
 
@@ -135,7 +219,19 @@ fn are_made_alike(sig: &Signature, state: &State, f: OpId, ks: &[usize], ls: &[u
     are_crosswise(state, ks, ls)
 }
 
-// Whether node i is a variable, or this operator over arguments that are made alike these nodes.
+// Whether the operators f and g are one, and the nodes ks are made alike the nodes ls.
+fn is_one_over(sig: &Signature, state: &State, f: OpId, ks: &[usize], g: OpId, ls: &[usize]) -> bool
+    requires left { All (λ k. k < length state.now.names) ks.now }
+    requires right { All (λ k. k < length state.now.names) ls.now }
+    ensures { IsTrue result → (f ≡ g) × AreMadeAlike sig.now (class_of state.now) f ks.now ls.now }
+{
+    if f != g {
+        return false;
+    }
+    are_made_alike(sig, state, f, ks, ls)
+}
+
+// Whether node i is a variable, or idle, or this operator over arguments that are made alike these nodes.
 fn is_over(sig: &Signature, table: &Table, state: &State, i: usize, g: OpId, ls: &[usize]) -> bool
     requires whole { length state.now.names ≡ length table.now.nodes }
     requires within { i < length table.now.nodes }
@@ -146,16 +242,16 @@ fn is_over(sig: &Signature, table: &Table, state: &State, i: usize, g: OpId, ls:
     match table.node(i) {
         Node::Var(_) => true,
         Node::App(f, ks) => {
-            if *f != g {
-                return false;
+            if is_one_over(sig, state, *f, ks.as_slice(), g, ls) {
+                return true;
             }
-            are_made_alike(sig, state, *f, ks.as_slice(), ls)
+            is_idle(table, state, i, *f, ks.as_slice())
         }
     }
 }
 
-// Whether an operator heads node m, which is in the class of node i, and node i is a variable, or is it over arguments that
-// are made alike.
+// Whether an operator heads node m, which is in the class of node i, over nodes of other classes, and node i is a variable, or
+// idle, or is it over arguments that are made alike.
 pub(crate) fn is_like(sig: &Signature, table: &Table, state: &State, m: usize, i: usize) -> bool
     requires whole { length state.now.names ≡ length table.now.nodes }
     requires within { i < length table.now.nodes }
@@ -170,7 +266,12 @@ pub(crate) fn is_like(sig: &Signature, table: &Table, state: &State, m: usize, i
     }
     match table.node(m) {
         Node::Var(_) => false,
-        Node::App(g, ls) => is_over(sig, table, state, i, *g, ls.as_slice()),
+        Node::App(g, ls) => {
+            if !is_absent(state, ls.as_slice(), state.class_of(i)) {
+                return false;
+            }
+            is_over(sig, table, state, i, *g, ls.as_slice())
+        }
     }
 }
 
@@ -192,7 +293,7 @@ fn is_noted(
     }
 }
 
-// Whether node j is in another class than node i, or a variable, or is known to have the sort.
+// Whether node j is in another class than node i, or a variable, or idle, or is known to have the sort.
 fn is_of_sort(
     sig: &Signature,
     table: &Table,
@@ -211,13 +312,13 @@ fn is_of_sort(
     if state.class_of(i) != state.class_of(j) {
         return true;
     }
-    if is_variable(table, j) {
+    if is_open_node(table, state, j) {
         return true;
     }
     has_sort(sig, table, sorts, j, sort)
 }
 
-// Whether all that operators head in the class of node i are known to have the sort.
+// Whether all that operators head in the class of node i are known to have the sort, but idle ones.
 fn are_of_sort(
     sig: &Signature,
     table: &Table,
@@ -313,7 +414,7 @@ fn is_built_at(
         return false;
     }
     if state.class_of(i) == state.class_of(z) {
-        return is_variable(table, i);
+        return is_open_node(table, state, i);
     }
     if height_at(state, heights, i) == 0 {
         return true;

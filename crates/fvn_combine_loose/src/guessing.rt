@@ -1,7 +1,7 @@
 //! Which classes may be loose, and the heights of those that are made from them: guesses, which are checked afterwards.
 ghost use Rattle.std.specs.Prelude.{◌≡◌, ◌<◌, length, All, IfOk};
 
-use crate::checking::{head_at, height_at, highest, is_like};
+use crate::checking::{head_at, height_at, highest, is_absent, is_idle, is_like};
 use fvn_combine_nodes::{Node, State, Table};
 use fvn_signature::Signature;
 use fvn_terms::NoMemory;
@@ -56,18 +56,6 @@ fn bar_all(state: &State, barred: &mut Vec<bool>, ks: &[usize])
     }
 }
 
-// Whether one of the nodes is in this class.
-fn has_member(state: &State, ks: &[usize], class: usize) -> bool
-    requires { All (λ k. k < length state.now.names) ks.now }
-{
-    for k in ks {
-        if state.class_of(*k) == class {
-            return true;
-        }
-    }
-    false
-}
-
 // Notes the head of a class.
 fn set_head(heads: &mut Vec<Option<usize>>, class: usize, i: usize) {
     if class < heads.len() {
@@ -75,8 +63,8 @@ fn set_head(heads: &mut Vec<Option<usize>>, class: usize, i: usize) {
     }
 }
 
-// Notes node i, which an operator heads, as the head of its class, and bars the class where it has another head, or where
-// it stands in itself.
+// Notes node i, which an operator heads, as the head of its class, where it is not idle, and bars the class where it has another
+// head, or where it stands in itself.
 fn note(
     sig: &Signature,
     table: &Table,
@@ -91,9 +79,12 @@ fn note(
     table.recall_well_made();
     match table.node(i) {
         Node::Var(_) => {}
-        Node::App(_, ks) => {
+        Node::App(f, ks) => {
+            if is_idle(table, state, i, *f, ks.as_slice()) {
+                return;
+            }
             let class = state.class_of(i);
-            if has_member(state, ks.as_slice(), class) {
+            if !is_absent(state, ks.as_slice(), class) {
                 bar(barred, class);
             }
             match head_at(state, heads.as_slice(), i) {
@@ -187,7 +178,7 @@ fn set_height(heights: &mut Vec<usize>, class: usize, height: usize)
     }
 }
 
-// The greatest height of the classes of node i's arguments.
+// The greatest height of the classes of node i's arguments; none where it is idle.
 fn beneath(table: &Table, state: &State, heights: &[usize], i: usize) -> usize
     requires whole { length state.now.names ≡ length table.now.nodes }
     requires within { i < length table.now.nodes }
@@ -195,7 +186,12 @@ fn beneath(table: &Table, state: &State, heights: &[usize], i: usize) -> usize
     table.recall_well_made();
     match table.node(i) {
         Node::Var(_) => 0,
-        Node::App(_, ks) => highest(state, heights, ks.as_slice()),
+        Node::App(f, ks) => {
+            if is_idle(table, state, i, *f, ks.as_slice()) {
+                return 0;
+            }
+            highest(state, heights, ks.as_slice())
+        }
     }
 }
 

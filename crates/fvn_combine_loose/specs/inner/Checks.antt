@@ -9,7 +9,7 @@ use Rattle.fvn_combine_nodes.specs.Table.{NodeTable, IsOver, term_at}
 use Rattle.fvn_combine_nodes.specs.States.{class_of}
 use Rattle.fvn_combine_nodes.specs.declared.state.State.{State}
 use Rattle.fvn_combine_nodes.specs.declared.table.Node.TheVariants.{Var}
-use Rattle.fvn_combine_loose.specs.Loose.{height_of, AreMadeAlike, IsLooseClass, AreHeights}
+use Rattle.fvn_combine_loose.specs.Loose.{height_of, IsRaised, IsIdle, AreMadeAlike, IsLooseClass, AreHeights}
 
 -- node i is marked
 abbrev pub IsMarked : List Bool → ℕ → Type 0
@@ -25,38 +25,34 @@ module _ (s : State) (heights : List ℕ) where
     pub above : All (λ k. height_of s heights k ≤ high) ks
     pub reached : 0 < high → Any (λ k. 0 < height_of s heights k) ks
 
-  -- node i is above all of these that have a height, and has one exactly where one of these has
-  pub record IsRaised (i : ℕ) (ks : List ℕ) : Type 0 where
-    pub upward : Any (λ k. 0 < height_of s heights k) ks → 0 < height_of s heights i
-    pub lower : All (λ k. 0 < height_of s heights k → height_of s heights k < height_of s heights i) ks
-    pub over : 0 < height_of s heights i → Any (λ k. 0 < height_of s heights k) ks
+module _ (t : NodeTable) (s : State) where
+  -- where an operator heads node i, the node is idle
+  abbrev pub IsOpenNode : ℕ → Type 0
+  IsOpenNode i = (f : OpId) (ks : List ℕ) → IsOver t.nodes i f ks → IsIdle t s i f ks
 
--- node i and its arguments are so
-abbrev pub AreRaised : NodeTable → State → List ℕ → ℕ → Type 0
-AreRaised t s heights i = (f : OpId) (ks : List ℕ) → IsOver t.nodes i f ks → IsRaised s heights i ks
-
-module _ (t : NodeTable) where
-  -- no operator heads node i
-  abbrev pub IsVariable : ℕ → Type 0
-  IsVariable i = (f : OpId) (ks : List ℕ) → IsOver t.nodes i f ks → ⊥
+  -- where an operator heads node i, the node is idle, or above its arguments
+  abbrev pub AreRaised : List ℕ → ℕ → Type 0
+  AreRaised heights i = (f : OpId) (ks : List ℕ) → IsOver t.nodes i f ks → IsIdle t s i f ks ⊎ IsRaised s heights i ks
 
   -- what is checked of node i
-  pub record IsBuilt (s : State) (marks : List Bool) (heights : List ℕ) (z i : ℕ) : Type 0 where
-    pub raised : AreRaised t s heights i
-    pub bottom : class_of s i ≡ class_of s z → IsVariable i
+  pub record IsBuilt (marks : List Bool) (heights : List ℕ) (z i : ℕ) : Type 0 where
+    pub raised : AreRaised heights i
+    pub bottom : class_of s i ≡ class_of s z → IsOpenNode i
     pub marked : class_of s i ≢ class_of s z → 0 < height_of s heights i → IsMarked marks i
 
 module _ (d : Declarations) (t : NodeTable) (s : State) where
-  -- where an operator heads node i, it is g over arguments that are made alike ls
+  -- where an operator heads node i, the node is idle, or it is g over arguments that are made alike ls
   abbrev pub AreOver : ℕ → OpId → List ℕ → Type 0
-  AreOver i g ls = (f : OpId) (ks : List ℕ) → IsOver t.nodes i f ks → (f ≡ g) × AreMadeAlike d (class_of s) f ks ls
+  AreOver i g ls = (f : OpId) (ks : List ℕ) → IsOver t.nodes i f ks → IsIdle t s i f ks ⊎ ((f ≡ g) × AreMadeAlike d (class_of s) f ks ls)
 
-  -- an operator heads node m, in the class of node i, and what heads node i is it over arguments that are made alike
+  -- An operator heads node m, in the class of node i, over nodes of other classes. What heads node i is it over arguments that are
+  -- made alike, or node i is idle.
   pub record IsLike (m i : ℕ) : Type 0 where
     pub operator : OpId
     pub arguments : List ℕ
     pub over : IsOver t.nodes m operator arguments
     pub of : class_of s m ≡ class_of s i
+    pub others : All (λ k. class_of s k ≢ class_of s i) arguments
     pub alike : AreOver i operator arguments
 
   -- node i is like the node that is noted to head its class
@@ -65,11 +61,12 @@ module _ (d : Declarations) (t : NodeTable) (s : State) where
     pub noted : slice_index_or heads (class_of s i) None ≡ Some member
     pub like : IsLike member i
 
-  -- where an operator heads node j, in the class of node i, its term has the sort
+  -- where an operator heads node j, in the class of node i, the node is idle, or its term has the sort
   abbrev pub IsOfSort : ℕ → SortId → ℕ → Type 0
-  IsOfSort i sort j = (f : OpId) (ks : List ℕ) → IsOver t.nodes j f ks → class_of s i ≡ class_of s j → HasSort d (term_at t.nodes j) sort
+  IsOfSort i sort j = (f : OpId) (ks : List ℕ) → IsOver t.nodes j f ks → class_of s i ≡ class_of s j
+      → IsIdle t s j f ks ⊎ HasSort d (term_at t.nodes j) sort
 
-  -- all nodes in the class of node i that operators head have the sort
+  -- all nodes in the class of node i that operators head have the sort, but idle ones
   abbrev pub AreOfSort : ℕ → SortId → Type 0
   AreOfSort i sort = (j : ℕ) → j < length t.nodes → IsOfSort i sort j
 
