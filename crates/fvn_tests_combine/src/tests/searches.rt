@@ -126,8 +126,10 @@ fn possible_heads_are_seen(rt: HostRuntime) -> Result<(), NoMemory> {
 // Problems that are solved as they stand, beside each other and one within another: each has one most general unifier,
 // under which each variable of a sum is a new one, so that nothing is asked of what only such variables tell apart. Twelve
 // levels have 37 minimal solutions, which are listed since it is known which classes the other sum heads; six pairs have
-// 729 lists of tags, of which one is tried, since new variables have none. Then the same beside a sum that has seven
-// unifiers, and beside sums that share variables, where questions are left.
+// 729 lists of tags, of which one is tried, since new variables have none. Then three levels with a summand beside them
+// that the other side has too: they are put together with the variable, under one operator in another order, and under one
+// of their own as a sum that stands. Then the same beside a sum that has seven unifiers, and beside sums that share
+// variables, where questions are left.
 const SOLVED_AS_THEY_STAND: &str = "general A0 = A1 A2 h A3 A4 h i A5 j h i => few | 1 1
 general A0 = A1 A2 h A3 A4 h i A5 j h i; A6 = A7 A8 h A9 Ab h i Ac j h i => few | 1 1
 general A0 = A1 A2 h A3 A4 h i A5 j h i; A6 = A7 A8 h A9 Ab h i Ac j h i; Ad = Ae Af h Ag Ah h i Ai j h i => few | 1 1
@@ -135,6 +137,8 @@ general A0 A1 h j A2 h i A3 h j A4 h i = A5 => few | 1 1
 general A0 A1 h j A2 h i A3 h j A4 h i A5 h j A6 h i A7 h j A8 h i = A9 => few | 1 1
 general A1 A2 h j A3 h i A4 h j A5 h i A6 h j A7 h i A8 h j A9 h i Aa h j Ab h i Ac h j Ad h i Ae h j Af h i Ag h j Ah h i Ai h j Aj h i Ak h j Al h i Am h j An h i Ao h j Ap h i = A0 => few | 1 1
 general A0 = A1 A1 l h A2 i A2 j h i; A3 = A4 A4 l h A5 i A5 j h i; A6 = A7 A7 l h A8 i A8 j h i; A9 = Aa Aa l h Ab i Ab j h i; Ac = Ad Ad l h Ae i Ae j h i; Af = Ag Ag l h Ah i Ah j h i => few | 1 1
+general A0 j k = A1 A2 h j A3 h i A4 h j A5 h i A6 h j A7 h i j k => few | 1 1
+general A0 f i = A1 A2 h j A3 h i A4 h j A5 h i A6 h j A7 h i f i => few | 1 1
 general A0 A1 k = A2 A3 k; A4 = A3 A5 h A6 A7 h i A8 j h i => few | 1 31
 general A0 A1 h = A2 A3 h; A0 A4 i = A2 A5 i => few | 3 20
 100 200 A0 = A1 A2 h A3 A4 h i A5 j h i => complete 1
@@ -142,6 +146,8 @@ general A0 A1 h = A2 A3 h; A0 A4 i = A2 A5 i => few | 3 20
 100 200 A0 A1 h j A2 h i A3 h j A4 h i A5 h j A6 h i A7 h j A8 h i = A9 => complete 1
 100 200 A1 A2 h j A3 h i A4 h j A5 h i A6 h j A7 h i A8 h j A9 h i Aa h j Ab h i Ac h j Ad h i Ae h j Af h i Ag h j Ah h i Ai h j Aj h i Ak h j Al h i Am h j An h i Ao h j Ap h i = A0 => complete 1
 100 200 A0 = A1 A1 l h A2 i A2 j h i; A3 = A4 A4 l h A5 i A5 j h i; A6 = A7 A7 l h A8 i A8 j h i; A9 = Aa Aa l h Ab i Ab j h i; Ac = Ad Ad l h Ae i Ae j h i; Af = Ag Ag l h Ah i Ah j h i => complete 1
+100 200 A0 j k = A1 A2 h j A3 h i A4 h j A5 h i A6 h j A7 h i j k => complete 1
+100 200 A0 f i = A1 A2 h j A3 h i A4 h j A5 h i A6 h j A7 h i f i => complete 1
 100 200 A0 A1 k = A2 A3 k; A4 = A3 A5 h A6 A7 h i A8 j h i => complete 7
 100 200 A0 A1 h = A2 A3 h; A0 A4 i = A2 A5 i => complete 3";
 
