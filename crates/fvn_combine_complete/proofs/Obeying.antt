@@ -131,13 +131,13 @@ module _ (choose : ValuesChoose) (aliases : NoAliases) (law : MadeUpByTaken) (d 
 
   accepted : (f : OpId) → IsSumOperator d t f → (o : Decided (IsSumOperator d t f)) → sum_told d t f ≡ o → IsAcceptable d t class y choice f
   accepted f sum (inl h) e =
-      acceptable d t made has s leaf told values go_with obey_heads y systems choice obey f h (asked_for f h).constants (asked_for f h).may_be_zero (asked_for f h).are_asked (chosen_for f h) (also f h) (marks_for f h) (marks_are f h) (ap (number_in f) e) (also_neutral f h) (also_bare f h) law aliases
+      acceptable d t made has s leaf told values go_with obey_heads y systems choice obey f h (asked_for f h).constants (asked_for f h).may_be_zero (asked_for f h).are_asked (chosen_for f h) (also f h) (marks_for f h) (marks_are f h) (ap (number_in f) e) (also_neutral f h) (also_bare f h) (also_passes f h) law aliases
   accepted f sum (inr n) e = absurd (n sum)
 
   made_up : (f : OpId) → IsSumOperator d t f → (o : Decided (IsSumOperator d t f)) → sum_told d t f ≡ o → AreMadeOf d t class y choice values f (pieces_in f (sum_told d t f))
   made_up f sum (inl h) e =
       subst (AreMadeOf d t class y choice values f) (sym (ap (pieces_in f) e))
-      (made_of d t made has s leaf told values go_with obey_heads y systems choice obey f h (asked_for f h).constants (asked_for f h).may_be_zero (asked_for f h).are_asked (chosen_for f h) (also f h) (marks_for f h) (marks_are f h) (ap (number_in f) e) (also_neutral f h) (also_bare f h) law)
+      (made_of d t made has s leaf told values go_with obey_heads y systems choice obey f h (asked_for f h).constants (asked_for f h).may_be_zero (asked_for f h).are_asked (chosen_for f h) (also f h) (marks_for f h) (marks_are f h) (ap (number_in f) e) (also_neutral f h) (also_bare f h) (also_passes f h) law)
   made_up f sum (inr n) e = absurd (n sum)
 
   -- every solution without a constant is taken
