@@ -29,7 +29,7 @@ use Rattle.fvn_combine_choices.proofs.Columns.{two_of_sum}
 use Rattle.fvn_combine_complete.specs.Laws.{IsChosen, NoAliases}
 use Rattle.fvn_combine_complete.specs.LaidOut.{laid_for}
 use Rattle.fvn_combine_choices.specs.Tables.{HasSums}
-use Rattle.fvn_combine_complete.specs.Obeying.{IsTold, GoWith, ObeyHeads, ObeyTags, IsTakenAsSum}
+use Rattle.fvn_combine_complete.specs.Obeying.{IsTold, GoWith, ObeyHeads, ObeyTags, TagsFollow, IsTakenAsSum}
 use Rattle.fvn_combine_complete.specs.Obeyed.{IsSummand, AreMadeOf}
 use Rattle.fvn_combine_complete.proofs.Aliases.{laid_out_are}
 use Rattle.fvn_combine_complete.proofs.Asked.{uses_told}
@@ -47,7 +47,7 @@ some_component [] h = absurd (omega (arith, h))
 some_component (zero ∷ v) h = let r = some_component v (let e = sum_by-cons (λ a. a) 0 v in omega (arith, h, e)) in (suc r.0, (let l = r.1 in omega (arith, l)), r.2)
 some_component (suc n ∷ v) h = (0, omega arith, omega arith)
 
-module _ (d : Declarations) (t : NodeTable) (made : IsWellMade t) (has : HasSums d t) (s : State) {heads : List (Option OpId)} (leaf : IsLeaf d t heads s) (told : IsTold d t (class_of s)) (values : ℕ → FlatTerm) (go_with : GoWith d t s values) (obey_heads : ObeyHeads d t heads values) (y : Systems) (systems : AreSystems d t (class_of s) y) (c : Choice) (obey : ObeyTags d t (class_of s) c.tag values)
+module _ (d : Declarations) (t : NodeTable) (made : IsWellMade t) (has : HasSums d t) (s : State) {heads : List (Option OpId)} (leaf : IsLeaf d t heads s) (told : IsTold d t (class_of s)) (values : ℕ → FlatTerm) (go_with : GoWith d t s values) (obey_heads : ObeyHeads d t s heads values) (y : Systems) (systems : AreSystems d t (class_of s) y) (c : Choice) (obey : ObeyTags d t (class_of s) c.tag values) (follow : TagsFollow d t (class_of s) c.tag values heads)
     (f : OpId) (sum : IsSumOperator d t f) (constants : List ℕ) (may_be_zero : List Bool) (are_asked : AreAsked d t (class_of s) c.tag f (y.columns f) constants may_be_zero) (ch : IsChosen d f values (y.columns f) (y.system f) (y.basis f) constants may_be_zero) (also : List ℕ → Bool) (marks : List Bool) (are : AreMarks also marks ch.pieces (y.basis f)) (number : c.number f ≡ number_by marks)
     (neutral : (v : List ℕ) → also v ≡ true → IsNeutral d f) (bare : (v : List ℕ) → also v ≡ true → touched constants v ≡ 0) (passes : IsNeutral d f → (v : List ℕ) → touched constants v ≡ 0 → also v ≡ true) (law : MadeUpByTaken) where
   abbrev class : ℕ → ℕ
@@ -252,8 +252,8 @@ module _ (d : Declarations) (t : NodeTable) (made : IsWellMade t) (has : HasSums
         let v_is : get_or (y.basis f) r.place [] ≡ together.solution = sym (solution_from m.0 m.1) ∙ is in
         let minimal = (exact together.solution).0 (subst (Contains (y.basis f)) v_is (Contains-get_or (y.basis f) r.place [] r.within)) in
         absurd (constants_differ d t made has s leaf told values go_with c.tag obey f k l hk hl n
-        (leaf.constants f k l (may_be d t made has s leaf told values go_with c.tag obey f k hk) (may_be d t made has s leaf told values go_with c.tag obey f l hl)
-        (constant_not_noted d t made has s leaf told values go_with c.tag obey obey_heads f k hk) (constant_not_noted d t made has s leaf told values go_with c.tag obey obey_heads f l hl)
+        (leaf.constants f k l (may_be d t class told c.tag f k hk) (may_be d t class told c.tag f l hl)
+        (constant_not_noted d t made has s leaf told values go_with c.tag obey obey_heads follow f k hk) (constant_not_noted d t made has s leaf told values go_with c.tag obey obey_heads follow f l hl)
         (record { columns = y.columns f; system = y.system f; is = is_node_system; solution = together.solution; minimal = minimal; left = together.left; right = together.right })
         (alike_live d t made has s leaf told values go_with c.tag obey f (y.columns f) together.solution alike))
         (alike k l hk hl together.left together.right))

@@ -158,7 +158,7 @@ module _ (d : Declarations) (t : NodeTable) (made : IsWellMade t) (has : HasSums
 
   -- and for a constant
   constant_alias : (f : OpId) (k : ℕ) → IsConstant d t class c.tag f k → alias k ≤ 1
-  constant_alias f k h = elim (constant_why d t made has s leaf told values go_with c.tag obeying.tags f k h) [
+  constant_alias f k h = elim (constant_why d t class told c.tag f k h) [
     | inl p ↦ (let z = solid_alias p.0 k p.2 in omega (arith, z))
     | inr shared ↦ shared_alias k shared
   ]
@@ -196,7 +196,7 @@ module _ (d : Declarations) (t : NodeTable) (made : IsWellMade t) (has : HasSums
 
   -- a constant of a class that is taken as a sum, and has its value, has the head of an operator without an identity
   taken_alias : (f : OpId) → IsSumOperator d t f → (k l : ℕ) → IsTakenAsSum d t class c.tag values f k → IsConstant d t class c.tag f l → AreTakenTogether d t class y c f k l → values l ≡ values k → alias l ≡ 0
-  taken_alias f sum k l as_sum h together same = elim (constant_why d t made has s leaf told values go_with c.tag obeying.tags f l h) [
+  taken_alias f sum k l as_sum h together same = elim (constant_why d t class told c.tag f l h) [
     | inl p ↦ solid_alias p.0 l p.2
     | inr shared ↦ absurd (as_sum.differ l h shared (taken_touched f sum k l together) same)
   ]
