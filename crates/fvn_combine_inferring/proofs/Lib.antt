@@ -11,4 +11,5 @@ mod HeadsTold
 mod Added
 mod Sizing
 mod EitherHead
+mod Clashes
 mod Standing

@@ -4,6 +4,7 @@
 mod bags;
 mod bounds;
 mod cancelling;
+mod clashing;
 mod differing;
 mod expressions;
 mod heads;
