@@ -15,7 +15,7 @@ use Rattle.fvn_acunify_product.specs.Wheels.{PendingChoices}
 use Rattle.fvn_combine_choices.specs.Choosing.{Choice}
 use Rattle.fvn_combine_drawing.specs.CombineAdmissibleListed.{tag_in, systems_of, choice_of}
 use Rattle.fvn_combine_drawing.specs.CombineCompleteCoveringChoices.{IsCovering}
-use Rattle.fvn_combine_drawing.specs.CombineCompleteObeying.{ObeyTags}
+use Rattle.fvn_combine_drawing.specs.CombineCompleteObeying.{TagsFollow}
 use Rattle.fvn_combine_drawing.specs.CombineBoundsNarrow.{KeepsBounds}
 use Rattle.fvn_combine_leaves.specs.Bases.{AreBases}
 use Rattle.fvn_combine_drawing.specs.CombineCandidatesSharing.{AreSharedClasses}
@@ -23,7 +23,7 @@ use Rattle.fvn_combine_drawing.specs.CombineCandidatesTags.{tag_counts, AreTags}
 use Rattle.fvn_combine_drawing.specs.CombineCandidatesTurning.{AreWheels}
 use Rattle.fvn_combine_loose.specs.Loose.{IsLooseClass}
 use Rattle.fvn_combine_loose.specs.Laws.{AreVariables}
-use Rattle.fvn_combine_inferring.specs.Inferred.{TellHeads}
+use Rattle.fvn_combine_inferring.specs.Inferred.{TellLabels}
 use Rattle.fvn_combine_inferring.specs.Sorted.{GoWithSorts}
 use Rattle.fvn_combine_drawing.specs.CombineTriangularReady.{IsReady}
 use Rattle.fvn_combine.specs.Tasks.{Combining}
@@ -39,12 +39,13 @@ module _ (k : Combining) (s : State) where
       pub are_tags : AreTags shared options v.tags
       pub are_wheels : AreWheels k.declarations k.table (class_of s) (tag_in v.tags) r.sums bases v.wheels.wheels
 
-    -- the choice covers u, and keeps to what sorts ask where they are heeded; u's values go with the state, and obey its tags
+  module _ (r : Reading) (bases : List (List Solution)) (labels : List (Option OpId)) where
+    -- the choice covers u, and keeps to what sorts ask where they are heeded; u's values go with the state, and its tags follow labels
     pub record IsSortedCovering (u : Substitution) (c : Choice) : Type 0 where
       pub covering : IsCovering k.declarations (problem_of k.given) k.table s (systems_of r bases) u c
       pub bounds : k.sorted ≡ true → KeepsBounds k.declarations k.table (class_of s) (systems_of r bases) c
       pub values : GoWithSorts k.declarations k.table s k.sorted (value_at k.declarations u k.table.nodes)
-      pub tagged : ObeyTags k.declarations k.table (class_of s) c.tag (value_at k.declarations u k.table.nodes)
+      pub follow : TagsFollow k.declarations k.table (class_of s) c.tag (value_at k.declarations u k.table.nodes) labels
 
     -- the choice of these tags and numbers does so
     abbrev pub IsCoveredBy : List (Option OpId) → List ℕ → Substitution → Type 0
@@ -57,13 +58,13 @@ module _ (k : Combining) (s : State) where
       pub covered : IsCoveredBy v.tags numbers u
 
   -- numbers under the current tags that are still to come cover u, where there are current tags
-  abbrev pub IsCoveredByCurrent : Reading → List (List Solution) → Option Turning → Substitution → Type 0
-  IsCoveredByCurrent r bases None u = ⊥
-  IsCoveredByCurrent r bases (Some v) u = IsCoveredUnder r bases v u
+  abbrev pub IsCoveredByCurrent : Reading → List (List Solution) → List (Option OpId) → Option Turning → Substitution → Type 0
+  IsCoveredByCurrent r bases labels None u = ⊥
+  IsCoveredByCurrent r bases labels (Some v) u = IsCoveredUnder r bases labels v u
 
   -- numbers under the current tags of an open leaf that are still to come cover u
   abbrev pub IsCoveredNow : Opened → Substitution → Type 0
-  IsCoveredNow o u = IsCoveredByCurrent o.reading o.bases o.turning u
+  IsCoveredNow o u = IsCoveredByCurrent o.reading o.bases o.labels o.turning u
 
   -- numbers under tags whose options are still to come cover u
   pub record IsCoveredLater (o : Opened) (u : Substitution) : Type 0 where
@@ -71,20 +72,19 @@ module _ (k : Combining) (s : State) where
     pub pending : PendingTags o.tags options
     pub numbers : List ℕ
     pub as_many : length numbers ≡ length o.reading.sums
-    pub covered : (tags : List (Option OpId)) → AreTags o.shared options tags → IsCoveredBy o.reading o.bases tags numbers u
+    pub covered : (tags : List (Option OpId)) → AreTags o.shared options tags → IsCoveredBy o.reading o.bases o.labels tags numbers u
 
   -- u has variables in the classes that are known to be loose, and a choice of the leaf that is still to come covers it
   abbrev pub IsCoveredToCome : Opened → Substitution → Type 0
   IsCoveredToCome o u = AreVariables k.declarations k.table o.loose u × (IsCoveredNow o u ⊎ IsCoveredLater o u)
 
-  -- what is read of the leaf and known of its classes, its minimal solutions, its shared classes and their tags, the wheels under current
+  -- what is read of the leaf and noted of its classes, its minimal solutions, its shared classes and their tags, the wheels under current
   -- tags, and loose classes, where more general unifiers are enough
   pub record IsOpened (o : Opened) : Type 0 where
     pub ready : IsReady k.declarations k.given k.first k.table s
-    pub leaf : IsLeaf k.declarations k.table o.known.heads.items s
+    pub leaf : IsLeaf k.declarations k.table o.labels s
     pub reading : IsReading k.declarations k.table (class_of s) o.reading
-    pub known : TellHeads k.declarations k.table s o.known.sorted o.known.heads.items
-    pub sorted : o.known.sorted ≡ k.sorted
+    pub labels : TellLabels k.declarations k.table s k.sorted o.labels
     pub bases : AreBases o.reading.sums o.bases
     pub shared : AreSharedClasses k.declarations k.table (class_of s) k.sorted o.shared
     pub counts : o.tags.counts ≡ tag_counts o.shared

@@ -21,7 +21,7 @@ use Rattle.fvn_combine_complete.specs.CombineChoicesChoosing.{Systems, Choice, A
 use Rattle.fvn_combine_complete.specs.CoveringChoices.{IsCovering}
 use Rattle.fvn_combine_complete.specs.Neutral.{IsNeutral}
 use Rattle.fvn_combine_complete.specs.Obeyed.{AreObeying}
-use Rattle.fvn_combine_complete.specs.Obeying.{IsTold, ObeyHeads, ObeyTags}
+use Rattle.fvn_combine_complete.specs.Obeying.{IsTold, ObeyHeads, TagsFollow, ObeyTags}
 use Rattle.fvn_sort_bounds.specs.Admitting.{AdmitsSum}
 use Rattle.fvn_combine_bounds.specs.Narrow.{IsNarrow, IsNeverIdentity, IsSortedAt, KeepsBounds, KeepsSorts}
 
@@ -73,14 +73,14 @@ abbrev pub NeutralOperatorsAdmitSums : Type 0
 NeutralOperatorsAdmitSums =
     (d : Declarations) → IsGood d → (f : OpId) → IsNeutral d f → (s : SortId) → IsOfKind d f s → AdmitsSum d f s
 
--- at a leaf that admits its partition, each unifier on kinds whose values obey the leaf's heads is covered by some choice, whose tags they obey; where
+-- at a leaf that admits its partition, each unifier on kinds whose values obey the leaf's heads is covered by some choice, whose tags follow these; where
 -- it gives the problem's variables terms of their sorts, the choice keeps to what sorts ask
 abbrev pub SortedLeavesCover : Type 0
 SortedLeavesCover =
     (d : Declarations) → IsGood d → (problem : Problem) → IsProblem d problem
     → (t : NodeTable) → IsWellMade t → IsTableOf d problem t
     → (s : State) (heads : List (Option OpId)) → IsLeaf d t heads s → IsTold d t (class_of s) → (y : Systems) → AreSystems d t (class_of s) y
-    → (u : Substitution) → IsKindUnifier d problem u → Admits s (kernel d u t.nodes) → ObeyHeads d t heads (value_at d u t.nodes)
+    → (u : Substitution) → IsKindUnifier d problem u → Admits s (kernel d u t.nodes) → ObeyHeads d t s heads (value_at d u t.nodes)
     → (c : Choice) × IsCovering d problem t s y u c
     × (KeepsSorts d (variables_of problem) u → KeepsBounds d t (class_of s) y c)
-    × ObeyTags d t (class_of s) c.tag (value_at d u t.nodes)
+    × TagsFollow d t (class_of s) c.tag (value_at d u t.nodes) heads

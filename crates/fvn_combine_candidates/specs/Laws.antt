@@ -90,7 +90,7 @@ abbrev pub ListsCover : Type 0
 ListsCover =
     (d : Declarations) → IsGood d → (problem : Problem) → IsProblem d problem → (t : NodeTable) → IsWellMade t → IsTableOf d problem t
     → (s : State) (heads : List (Option OpId)) → IsLeaf d t heads s → (r : Reading) → IsReading d t (class_of s) r → (bases : List (List Solution)) → AreBases r.sums bases
-    → (sorted : Bool) (shared : List SharedClass) → AreSharedClasses d t (class_of s) sorted shared → (u : Substitution) → IsKindUnifier d problem u → Admits s (kernel d u t.nodes) → ObeyHeads d t heads (value_at d u t.nodes)
+    → (sorted : Bool) (shared : List SharedClass) → AreSharedClasses d t (class_of s) sorted shared → (u : Substitution) → IsKindUnifier d problem u → Admits s (kernel d u t.nodes) → ObeyHeads d t s heads (value_at d u t.nodes)
     → (sorted ≡ true → KeepsSorts d (variables_of problem) u)
     → (options : List ℕ) × (numbers : List ℕ) × AllZip IsOption (tag_counts shared) options
     × ((tags : List (Option OpId)) → AreTags shared options tags → IsCovering d problem t s (systems_of r bases) u (choice_of r tags numbers)

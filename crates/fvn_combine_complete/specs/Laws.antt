@@ -35,7 +35,7 @@ use Rattle.fvn_combine_complete.specs.Full.{IsFull}
 use Rattle.fvn_combine_complete.specs.LaidOut.{laid_out}
 use Rattle.fvn_combine_complete.specs.Obeyed.{AreObeying}
 use Rattle.fvn_combine_choices.specs.Tables.{HasSums}
-use Rattle.fvn_combine_complete.specs.Obeying.{IsTold, GoWith, ObeyHeads, ObeyTags}
+use Rattle.fvn_combine_complete.specs.Obeying.{IsTold, GoWith, ObeyHeads, TagsFollow, ObeyTags}
 
 -- what is counted of each flat form in the columns of f solves f's system, and meets what is asked of the choice
 pub record CountsMeet (d : Declarations) (f : OpId) (values : ℕ → FlatTerm) (columns : List ℕ) (system : System) (basis : List (List ℕ)) (constants : List ℕ) (may_be_zero : List Bool) : Type 0 where
@@ -54,11 +54,11 @@ pub record IsChosen (d : Declarations) (f : OpId) (values : ℕ → FlatTerm) (c
   -- a solution that is chosen and has a constant has the value of its class as its one piece
   pub stand : StandAlone constants basis pieces (λ j. values (slice_index columns j))
 
--- what is counted of values that go with a leaf, and obey its heads and tags, meets what is asked for each sum operator
+-- what is counted of values that go with a leaf, and obey its heads, and tags that follow these, meets what is asked for each sum operator
 abbrev pub ValuesMeetWhatIsAsked : Type 0
 ValuesMeetWhatIsAsked =
     (d : Declarations) (t : NodeTable) → IsWellMade t → HasSums d t → (s : State) (heads : List (Option OpId)) → IsLeaf d t heads s → IsTold d t (class_of s)
-    → (values : ℕ → FlatTerm) → GoWith d t s values → ObeyHeads d t heads values → (tag : ℕ → Option OpId) → ObeyTags d t (class_of s) tag values
+    → (values : ℕ → FlatTerm) → GoWith d t s values → ObeyHeads d t s heads values → (tag : ℕ → Option OpId) → ObeyTags d t (class_of s) tag values → TagsFollow d t (class_of s) tag values heads
     → (f : OpId) → IsSumOperator d t f → (columns : List ℕ) (system : System) → IsNodeSystem t (class_of s) f columns system
     → (basis : List (List ℕ)) → ((v : List ℕ) → Contains basis v ↔ IsMinimal system.columns (rows_of system) v)
     → (constants : List ℕ) (may_be_zero : List Bool) → AreAsked d t (class_of s) tag f columns constants may_be_zero
@@ -68,7 +68,7 @@ ValuesMeetWhatIsAsked =
 abbrev pub ValuesChoose : Type 0
 ValuesChoose =
     (d : Declarations) (t : NodeTable) → IsWellMade t → HasSums d t → (s : State) (heads : List (Option OpId)) → IsLeaf d t heads s → IsTold d t (class_of s)
-    → (values : ℕ → FlatTerm) → GoWith d t s values → ObeyHeads d t heads values → (tag : ℕ → Option OpId) → ObeyTags d t (class_of s) tag values
+    → (values : ℕ → FlatTerm) → GoWith d t s values → ObeyHeads d t s heads values → (tag : ℕ → Option OpId) → ObeyTags d t (class_of s) tag values → TagsFollow d t (class_of s) tag values heads
     → (f : OpId) → IsSumOperator d t f → (columns : List ℕ) (system : System) → IsNodeSystem t (class_of s) f columns system
     → (basis : List (List ℕ)) → ((v : List ℕ) → Contains basis v ↔ IsMinimal system.columns (rows_of system) v)
     → (constants : List ℕ) (may_be_zero : List Bool) → AreAsked d t (class_of s) tag f columns constants may_be_zero
@@ -101,11 +101,12 @@ ReadingsTell = (d : Declarations) (t : NodeTable) (s : State) → IsClosed d t s
 abbrev pub TablesHaveSums : Type 0
 TablesHaveSums = (d : Declarations) → FitsKinds d → (problem : Problem) → IsProblem d problem → (t : NodeTable) → IsWellMade t → IsTableOf d problem t → HasSums d t
 
--- values that go with a leaf obey some tags
+-- values that go with a leaf, and obey its heads, obey some tags that follow these
 abbrev pub TagsExist : Type 0
 TagsExist =
-    (d : Declarations) (t : NodeTable) → IsWellMade t → HasSums d t → (s : State) (heads : List (Option OpId)) → IsLeaf d t heads s → (y : Systems) → AreSystems d t (class_of s) y
-    → (values : ℕ → FlatTerm) → GoWith d t s values → (tag : ℕ → Option OpId) × ObeyTags d t (class_of s) tag values
+    (d : Declarations) (t : NodeTable) → IsWellMade t → HasSums d t → (s : State) (heads : List (Option OpId)) → IsLeaf d t heads s → IsTold d t (class_of s) → (y : Systems) → AreSystems d t (class_of s) y
+    → (values : ℕ → FlatTerm) → GoWith d t s values → ObeyHeads d t s heads values
+    → (tag : ℕ → Option OpId) × ObeyTags d t (class_of s) tag values × TagsFollow d t (class_of s) tag values heads
 
 -- values that a unifier gives go with each state that admits its partition
 abbrev pub UnifiersGoWith : Type 0
@@ -113,12 +114,12 @@ UnifiersGoWith =
     (d : Declarations) → FitsKinds d → (problem : Problem) → IsProblem d problem → (t : NodeTable) → IsWellMade t → IsTableOf d problem t
     → (u : Substitution) → IsKindUnifier d problem u → (s : State) → IsClosed d t s → Admits s (kernel d u t.nodes) → GoWith d t s (value_at d u t.nodes)
 
--- values that go with a leaf and obey its heads obey a possible choice that is full
+-- values that go with a leaf and obey its heads obey a possible choice that is full, and whose tags follow the heads
 abbrev pub ValuesObeyChoices : Type 0
 ValuesObeyChoices =
     (d : Declarations) → IsGood d → (t : NodeTable) → IsWellMade t → HasSums d t → (s : State) (heads : List (Option OpId)) → IsLeaf d t heads s → IsTold d t (class_of s)
-    → (y : Systems) → AreSystems d t (class_of s) y → (values : ℕ → FlatTerm) → GoWith d t s values → ObeyHeads d t heads values
-    → (c : Choice) × IsPossible d t (class_of s) y c × IsFull d t (class_of s) y c × AreObeying d t (class_of s) y c values
+    → (y : Systems) → AreSystems d t (class_of s) y → (values : ℕ → FlatTerm) → GoWith d t s values → ObeyHeads d t s heads values
+    → (c : Choice) × IsPossible d t (class_of s) y c × IsFull d t (class_of s) y c × AreObeying d t (class_of s) y c values × TagsFollow d t (class_of s) c.tag values heads
 
 -- where values obey a choice, a class needs only classes of a lower rank
 abbrev pub ObeyedChoicesFall : Type 0
@@ -143,5 +144,5 @@ abbrev pub LeavesCover : Type 0
 LeavesCover =
     (d : Declarations) → IsGood d → (problem : Problem) → IsProblem d problem → (t : NodeTable) → IsWellMade t → IsTableOf d problem t
     → (s : State) (heads : List (Option OpId)) → IsLeaf d t heads s → IsTold d t (class_of s) → (y : Systems) → AreSystems d t (class_of s) y
-    → (u : Substitution) → IsKindUnifier d problem u → Admits s (kernel d u t.nodes) → ObeyHeads d t heads (value_at d u t.nodes)
+    → (u : Substitution) → IsKindUnifier d problem u → Admits s (kernel d u t.nodes) → ObeyHeads d t s heads (value_at d u t.nodes)
     → (c : Choice) × IsCovering d problem t s y u c

@@ -1,5 +1,5 @@
--- Values that go with a leaf, and heads and tags that they obey.
-use Rattle.std.specs.Prelude.{◌≡◌, ◌≢◌, ◌⊎◌, ◌↔◌, ℕ, ◌<◌, true, List, length, Option, Some}
+-- Values that go with a leaf, and operators that are noted, and tags, which they obey.
+use Rattle.std.specs.Prelude.{◌≡◌, ◌≢◌, ◌⊎◌, ℕ, ◌<◌, true, List, length, Option, Some}
 use Rattle.fvn_terms.specs.declared.plain.OpId.{OpId}
 use Rattle.fvn_terms.specs.declared.declarations.Declarations.{Declarations}
 use Rattle.fvn_terms.specs.Signature.{axioms}
@@ -9,7 +9,13 @@ use Rattle.fvn_combine_nodes.specs.Table.{NodeTable}
 use Rattle.fvn_combine_nodes.specs.States.{class_of, is_apart}
 use Rattle.fvn_combine_nodes.specs.declared.state.State.{State}
 use Rattle.fvn_combine_systems.specs.Values.{AreValues}
-use Rattle.fvn_combine_leaves.specs.Leaves.{IsSolid, Uses, IsShared, IsNotedSum}
+use Rattle.fvn_lindio.specs.declared.system.System.{System}
+use Rattle.fvn_lindio.specs.Systems.{IsMinimal, rows_of}
+use Rattle.fvn_flat.specs.SolvedLists.{component}
+use Rattle.fvn_combine_systems.specs.NodeSystems.{IsNodeSystem}
+use Rattle.fvn_combine_leaves.specs.Leaves.{IsSolid, Uses, IsShared, AreTouched, IsNotedSum, HasRoom}
+use Rattle.fvn_combine_choices.specs.Binding.{IsConstant}
+use Rattle.fvn_combine_complete.specs.Neutral.{IsNeutral}
 
 -- of each class it is told whether an operator without an identity heads a member, and whether an operator other than a given one uses it
 pub record IsTold (d : Declarations) (t : NodeTable) (class : ℕ → ℕ) : Type 0 where
@@ -29,10 +35,50 @@ IsSumOf f v = (ts : FlatTerms) × (v ≡ fapp f true ts)
 abbrev pub IsSumOrIdentityOf : Declarations → OpId → FlatTerm → Type 0
 IsSumOrIdentityOf d f v = IsSumOf f v ⊎ ((e : OpId) × (identity (axioms d f) ≡ Some e) × (v ≡ fconstant e))
 
--- where an operator with an identity is noted as what heads a class, the value is a sum of it
-abbrev pub ObeyHeads : Declarations → NodeTable → List (Option OpId) → (ℕ → FlatTerm) → Type 0
-ObeyHeads d t heads values = (k : ℕ) (f : OpId) → k < length t.nodes → IsNotedSum d t heads f k → IsSumOf f (values k)
+-- no operator that uses class k, but f, makes the form a sum, or has it as its identity
+abbrev pub IsOfNoOther : Declarations → NodeTable → (ℕ → ℕ) → OpId → ℕ → FlatTerm → Type 0
+IsOfNoOther d t class f k v = (g : OpId) → g ≢ f → Uses d t class g k → IsSumOrIdentityOf d g v → ⊥
 
--- a shared class has an operator that uses it as its tag exactly where its value is a sum of it, or its identity
-abbrev pub ObeyTags : Declarations → NodeTable → (ℕ → ℕ) → (ℕ → Option OpId) → (ℕ → FlatTerm) → Type 0
-ObeyTags d t class tag values = (k : ℕ) (f : OpId) → IsShared d t class k → Uses d t class f k → (tag k ≡ Some f) ↔ IsSumOrIdentityOf d f (values k)
+-- f is a label of class k: its identity leaves sorts alone, the class has room for it, and no other operator that uses the class makes the value a sum
+pub record IsLabel (d : Declarations) (t : NodeTable) (s : State) (heads : List (Option OpId)) (f : OpId) (k : ℕ) (v : FlatTerm) : Type 0 where
+  pub neutral : IsNeutral d f
+  pub room : HasRoom d t heads s f k
+  pub other : IsOfNoOther d t (class_of s) f k v
+
+-- where an operator with an identity is noted of a class, the value is a sum of it, or the operator is a label
+abbrev pub ObeyHeads : Declarations → NodeTable → State → List (Option OpId) → (ℕ → FlatTerm) → Type 0
+ObeyHeads d t s heads values = (k : ℕ) (f : OpId) → k < length t.nodes → IsNotedSum d t heads f k
+    → IsSumOf f (values k) ⊎ IsLabel d t s heads f k (values k)
+
+module _ (d : Declarations) (t : NodeTable) (class : ℕ → ℕ) (tag : ℕ → Option OpId) (values : ℕ → FlatTerm) where
+  -- Class k is taken as a sum of f, though its value is one summand: no operator that uses the class makes it a sum. The identity of f leaves
+  -- sorts alone, a minimal solution without a constant has the class, and shared constants that are in a solution with it differ.
+  pub record IsTakenAsSum (f : OpId) (k : ℕ) : Type 0 where
+    pub neutral : IsNeutral d f
+    pub one : (g : OpId) → Uses d t class g k → IsSumOrIdentityOf d g (values k) → ⊥
+    pub columns : List ℕ
+    pub system : System
+    pub is : IsNodeSystem t class f columns system
+    pub solution : List ℕ
+    pub minimal : IsMinimal system.columns (rows_of system) solution
+    pub has : 0 < component columns solution k
+    pub free : (l : ℕ) → IsConstant d t class tag f l → component columns solution l ≡ 0
+    pub differ : (l : ℕ) → IsConstant d t class tag f l → IsShared d t class l → AreTouched d t class f k l → values l ≢ values k
+
+  -- f is the tag of class k where the value is a sum of it, or its identity; and where it is the tag, this holds, or the class is taken as a sum
+  pub record ObeysTag (k : ℕ) (f : OpId) : Type 0 where
+    pub found : IsSumOrIdentityOf d f (values k) → tag k ≡ Some f
+    pub meant : tag k ≡ Some f → IsSumOrIdentityOf d f (values k) ⊎ IsTakenAsSum f k
+
+  -- each shared class obeys its tag, by each operator that uses it
+  abbrev pub ObeyTags : Type 0
+  ObeyTags = (k : ℕ) (f : OpId) → IsShared d t class k → Uses d t class f k → ObeysTag k f
+
+  -- f is the tag of class k where it is noted; and where it is the tag, it is noted, or the value is a sum of it, or its identity
+  pub record FollowsHeads (heads : List (Option OpId)) (k : ℕ) (f : OpId) : Type 0 where
+    pub noted : IsNotedSum d t heads f k → tag k ≡ Some f
+    pub meant : tag k ≡ Some f → IsSumOrIdentityOf d f (values k) ⊎ IsNotedSum d t heads f k
+
+  -- the tag of each shared class follows what is noted of it, by each operator that uses it
+  abbrev pub TagsFollow : List (Option OpId) → Type 0
+  TagsFollow heads = (k : ℕ) (f : OpId) → IsShared d t class k → Uses d t class f k → FollowsHeads heads k f

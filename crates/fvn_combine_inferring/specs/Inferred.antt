@@ -10,7 +10,7 @@ use Rattle.fvn_flat.specs.Partitions.{HasNoIdentity}
 use Rattle.fvn_combine_nodes.specs.Table.{NodeTable}
 use Rattle.fvn_combine_nodes.specs.States.{IsOpen, class_of}
 use Rattle.fvn_combine_nodes.specs.declared.state.State.{State}
-use Rattle.fvn_combine_bounds.specs.CombineCompleteObeying.{IsSumOf}
+use Rattle.fvn_combine_bounds.specs.CombineCompleteObeying.{IsSumOf, IsOfNoOther, ObeyHeads}
 use Rattle.fvn_combine_inferring.specs.Sorted.{GoWithSorts}
 use Rattle.fvn_combine_inferring.specs.declared.inferring.Inferred.{Inferred}
 use Rattle.fvn_combine_inferring.specs.declared.inferring.Inferred.TheVariants.{Nothing, Impossible, Together, Question}
@@ -52,3 +52,11 @@ module _ (d : Declarations) (t : NodeTable) (s : State) where
     IsInferred Impossible = HasNoValues
     IsInferred (Together i j) = MustMeet i j
     IsInferred (Question i j) = AreOpen i j
+
+    -- whatever values go with the state, no operator but f that uses the class of node k makes its value a sum, or has it as its identity
+    abbrev pub IsSumOfNoOther : OpId → ℕ → Type 0
+    IsSumOfNoOther f k = (values : ℕ → FlatTerm) → GoWithSorts d t s sorted values → IsOfNoOther d t (class_of s) f (class_of s k) (values (class_of s k))
+
+    -- whatever values go with the state obey these operators
+    abbrev pub TellLabels : List (Option OpId) → Type 0
+    TellLabels labels = (values : ℕ → FlatTerm) → GoWithSorts d t s sorted values → ObeyHeads d t s labels values

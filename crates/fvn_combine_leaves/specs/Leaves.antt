@@ -100,12 +100,32 @@ module _ (d : Declarations) (t : NodeTable) where
   IsLive s f columns solution = (k l : ℕ) → k ≢ l → IsSingle (class_of s) f k → IsSingle (class_of s) f l
       → 0 < component columns solution k → 0 < component columns solution l → AreTold s k l → ⊥
 
-  -- f, which has an identity, is noted as what heads class k: the value is a sum by it
+  -- f, which has an identity, is noted of class k: the class is taken as a sum by it
   pub record IsNotedSum (heads : List (Option OpId)) (f : OpId) (k : ℕ) : Type 0 where
     pub noted : slice_index_or heads k None ≡ Some f
     pub some : HasNoIdentity (axioms d f) → ⊥
 
-  -- Nothing is open that decides what a class is bound to, where these heads of classes are known.
+  -- The shared class k has room for f: a minimal solution of f's sum system has it, and no class that may be a constant, but shared ones that are
+  -- noted as sums of f. So the class may be a sum of f with another summand than the ones that it shares with constants.
+  pub record HasRoom (heads : List (Option OpId)) (s : State) (f : OpId) (k : ℕ) : Type 0 where
+    pub shared : IsShared (class_of s) k
+    pub columns : List ℕ
+    pub system : System
+    pub is : IsNodeSystem t (class_of s) f columns system
+    pub solution : List ℕ
+    pub minimal : IsMinimal system.columns (rows_of system) solution
+    pub has : 0 < component columns solution k
+    pub free : (l : ℕ) → 0 < component columns solution l → MayBeConstant (class_of s) f l → IsShared (class_of s) l × IsNotedSum heads f l
+    -- of each other shared class that may be a constant of f, is not noted as a sum of it, and is in a minimal solution with k, it is told that it differs
+    pub told : (l : ℕ) → l ≢ k → IsShared (class_of s) l → MayBeConstant (class_of s) f l → (IsNotedSum heads f l → ⊥)
+        → AreTouched (class_of s) f k l → AreTold s k l
+
+  -- an operator that labels note of a class is noted by heads, or is a candidate for which the class has room
+  abbrev pub AreLabels : State → (heads candidates labels : List (Option OpId)) → Type 0
+  AreLabels s heads candidates labels = (k : ℕ) (f : OpId) → slice_index_or labels k None ≡ Some f
+      → (slice_index_or heads k None ≡ Some f) ⊎ ((slice_index_or candidates k None ≡ Some f) × HasRoom labels s f k)
+
+  -- Nothing is open that decides what a class is bound to, where these operators are noted of classes.
   pub record IsLeaf (heads : List (Option OpId)) (s : State) : Type 0 where
     pub closed : IsClosed d t s
     pub partition : IsNodePartition d t (class_of s)
