@@ -13,3 +13,4 @@ mod Sizing
 mod EitherHead
 mod Clashes
 mod Standing
+mod Labels

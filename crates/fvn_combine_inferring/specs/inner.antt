@@ -4,3 +4,4 @@ pub mod Splits
 pub mod Bounds
 pub mod Sizes
 pub mod Clashes
+pub mod Labels
