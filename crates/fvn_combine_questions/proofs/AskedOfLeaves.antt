@@ -120,7 +120,7 @@ module _ (d : Declarations) (t : NodeTable) (made : IsWellMade t) (s : State) (c
           let minimal = (basis.exact v.parts).0 (contains_map (λ (w : Solution). w.parts) (get_or bases i []) v c) in
           minimal.solves.sized ∙ sums.is_system.wide)
 
-      module _ (past : AreAllPast r s (IsNotedIn d heads) r.sums bases) where
+      module _ (past : AreAllPast r s (IsNotedIn d heads) bases) where
         -- classes that may be constants of the operator at this place are told apart, where a solution of its system has both
         module _ (e : Sums) (c : Contains r.sums e) where
           at_place : slice_get r.sums c.0 ≡ Some e
@@ -210,7 +210,7 @@ module _ (d : Declarations) (t : NodeTable) (made : IsWellMade t) (s : State) (c
                 ]
 
       -- the answer where pairs are asked that a solution has both of
-      pub asked_on_touched : IsNearLeaf d t s → (o : Option (ℕ × ℕ)) → IsOpenPairOr s (AreAllPast r s (IsNotedIn d heads) r.sums bases) o → IsQuestion d t heads s o
+      pub asked_on_touched : IsNearLeaf d t s → (o : Option (ℕ × ℕ)) → IsOpenPairOr s (AreAllPast r s (IsNotedIn d heads) bases) o → IsQuestion d t heads s o
       asked_on_touched near None past = record { closed = near.closed; partition = near.partition; identities = near.identities; constants = touched }
         where
           touched : (f : OpId) (k l : ℕ) → MayBeConstant d t (class_of s) f k → MayBeConstant d t (class_of s) f l → (IsNotedSum d t heads f k → ⊥) → (IsNotedSum d t heads f l → ⊥) → (both : AreTouched d t (class_of s) f k l) → IsLive d t s f both.columns both.solution → AreTold d t s k l
@@ -218,4 +218,4 @@ module _ (d : Declarations) (t : NodeTable) (made : IsWellMade t) (s : State) (c
               let a = entry_of d t made s closed r reading f k mk.used in
               subst (λ o. (mk : MayBeConstant d t (class_of s) o k) (ml : MayBeConstant d t (class_of s) o l) (nk : IsNotedSum d t heads o k → ⊥) (nl : IsNotedSum d t heads o l → ⊥) (both : AreTouched d t (class_of s) o k l) → IsLive d t s o both.columns both.solution → AreTold d t s k l) a.operator
               (apart_where_touched past a.entry a.listed k l) mk ml nk nl both live
-      asked_on_touched near (Some p) h = pair_question (AreAllPast r s (IsNotedIn d heads) r.sums bases) p h
+      asked_on_touched near (Some p) h = pair_question (AreAllPast r s (IsNotedIn d heads) bases) p h
