@@ -276,18 +276,11 @@ fn has_room(
 {
     let sums = reading.sums.as_slice();
     for i in 0..sums.len() {
-        if sums[i].operator != f {
+        let entry = &sums[i];
+        if entry.operator != f {
             continue;
         }
-        if has_room_of(
-            sig,
-            state,
-            reading,
-            labels,
-            &sums[i],
-            bases[i].as_slice(),
-            k,
-        ) {
+        if has_room_of(sig, state, reading, labels, entry, bases[i].as_slice(), k) {
             return true;
         }
     }
