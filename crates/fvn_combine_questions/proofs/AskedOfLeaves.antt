@@ -1,10 +1,7 @@
 -- What a reading tells of a state, and leaves.
-use Rattle.std.proofs.Common.{◌≡◌, ◌≢◌, ◌⊎◌, ℕ, ◌<◌, List, [], ◌∷◌, length, get_or, sym, ap, ◌∙◌, subst, subst₂, slice_get, inl, inr, arith, All, Contains, Option, Some, None}
-use Rattle.std.proofs.lemmas.List.{get_or_default}
-use Rattle.std.proofs.lemmas.List.Elements.{All-contains, Contains-get_or}
-use Rattle.std.proofs.lemmas.Option.{slice_get_within, slice_get-get_or}
-use Rattle.fvn_base.proofs.Options.{Some-injective}
-use Rattle.fvn_base.proofs.Membership.{contains_map, map_contains}
+use Rattle.std.proofs.Common.{◌≡◌, ◌⊎◌, ℕ, ◌<◌, List, [], ◌∷◌, length, get_or, sym, ap, ◌∙◌, subst, subst₂, slice_get, inl, inr, arith, All, Contains, Option, Some, None}
+use Rattle.std.proofs.lemmas.List.Elements.{All-contains}
+use Rattle.fvn_base.proofs.Membership.{contains_map}
 use Rattle.fvn_terms.specs.declared.plain.OpId.{OpId}
 use Rattle.fvn_terms.specs.declared.declarations.Declarations.{Declarations}
 use Rattle.fvn_lindio.specs.declared.system.Solution.{Solution}
@@ -16,11 +13,11 @@ use Rattle.fvn_combine_questions.specs.Swaps.{IsSwap}
 use Rattle.fvn_combine_nodes.specs.declared.state.State.{State}
 use Rattle.fvn_combine_nodes.proofs.Nodes.{arguments_within}
 use Rattle.fvn_combine_nodes.proofs.Lists.{all_from}
-use Rattle.fvn_combine_leaves.specs.Leaves.{IsSolid, Uses, IsShared, MayBeConstant, IsSingle, HaveTwoHeads, AreTouched, AreTold, IsLive, IsNotedSum, IsNearLeaf, IsFirstQuestion, IsQuestion, IsFullQuestion}
+use Rattle.fvn_combine_leaves.specs.Leaves.{Uses, MayBeConstant, IsSingle, HaveTwoHeads, AreTouched, AreTold, IsLive, IsNotedSum, IsNearLeaf, IsFirstQuestion, IsQuestion, IsFullQuestion}
 use Rattle.fvn_combine_leaves.specs.Bases.{AreBases}
 use Rattle.fvn_combine_leaves.specs.Readings.{AreSums, IsReading}
 use Rattle.fvn_combine_questions.specs.inner.Past.{IsOpenPairOr, IsPastUser, ArePastIdentities, ArePastClasses, ArePastPairs}
-use Rattle.fvn_combine_leaves.specs.Users.{IsWhole, HasTwinIn, head_of, IsSharedIn, CanStand, CanBeConstant, HaveHeads}
+use Rattle.fvn_combine_leaves.specs.Users.{IsWhole, HasTwinIn, IsSharedIn, CanBeConstant, HaveHeads}
 use Rattle.fvn_combine_questions.specs.inner.Touched.{AreAllWide, IsNotedIn, IsSingleIn, AreToldIn, IsDead, IsPastSolution, AreAllPast}
 use Rattle.fvn_combine_leaves.specs.declared.reading.Sums.{Sums}
 use Rattle.fvn_combine_leaves.specs.declared.reading.Reading.{Reading}

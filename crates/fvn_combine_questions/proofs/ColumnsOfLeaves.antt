@@ -12,7 +12,7 @@ use Rattle.fvn_lindio.specs.declared.system.Solution.{Solution}
 use Rattle.fvn_lindio.specs.Systems.{IsMinimal, rows_of}
 use Rattle.fvn_flat.specs.SolvedLists.{component}
 use Rattle.fvn_combine_nodes.specs.Table.{NodeTable, IsWellMade}
-use Rattle.fvn_combine_nodes.specs.States.{IsClosed, IsOpen, class_of}
+use Rattle.fvn_combine_nodes.specs.States.{IsClosed, class_of}
 use Rattle.fvn_combine_nodes.specs.declared.state.State.{State}
 use Rattle.fvn_combine_systems.specs.NodeSystems.{IsNodeSystem}
 use Rattle.fvn_combine_systems.proofs.Weighing.{component_at}
