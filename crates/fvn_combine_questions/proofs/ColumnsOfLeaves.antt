@@ -24,7 +24,7 @@ use Rattle.fvn_combine_leaves.specs.declared.reading.Sums.{Sums}
 use Rattle.fvn_combine_leaves.specs.declared.reading.Reading.{Reading}
 use Rattle.fvn_combine_leaves.proofs.ReadOfState.{column_within, marked_to, shared_in}
 use Rattle.fvn_combine_questions.specs.inner.Touched.{AreToldIn}
-use Rattle.fvn_combine_questions.proofs.Carrying.{carry, carried, minimal_carried}
+use Rattle.fvn_combine_systems.proofs.Carrying.{carry, carried, minimal_carried}
 
 -- what stands at a place is in the list
 pub contained_at : {X : Type 0} (xs : List X) (i : ℕ) (x : X) → slice_get xs i ≡ Some x → Contains xs x

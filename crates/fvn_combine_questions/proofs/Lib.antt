@@ -2,7 +2,6 @@
 mod Swapping
 mod Walked
 mod Passing
-mod Carrying
 mod ColumnsOfLeaves
 mod AskedOfLeaves
 mod Labelled
