@@ -2,7 +2,7 @@
 //!
 //! A class has room for an operator where a minimal solution has it that has no constant but classes that are noted as sums by
 //! the operator, and where no shared class that may be a constant and is in a minimal solution with it may be one with it.
-ghost use Rattle.std.specs.Prelude.{◌≡◌, ◌<◌, length, slice_index, slice_get, Some, MatchOption, IsTrue, set, None, Contains, All};
+ghost use Rattle.std.specs.Prelude.{◌≡◌, ◌<◌, length, slice_index, set, None, MatchOption, IsTrue};
 ghost use Rattle.fvn_combine_nodes.specs.States.{IsClosed, IsNaming, class_of};
 ghost use Rattle.fvn_combine_leaves.specs.Bases.{AreBases};
 ghost use Rattle.fvn_combine_leaves.specs.Leaves.{AreLabels};
