@@ -105,7 +105,7 @@ module _ (k : Combining) (s : State) (o : Opened) (opened : IsOpened k s o) wher
         let tag : tag_in tags c.class ≡ user_at c.users (get_or options q.0 0) = are c.class ∙ tag_at o.shared options opened.shared.distinct (option_each options pending) q.0 c q.2 in
         let f = some_user c.users (get_or options q.0 0) (λ e. a.tagged (tag ∙ e)) in
         let x = All-contains (λ z. (x : Var) × (value_at k.declarations u k.table.nodes z ≡ fvar x)) o.loose c.class variables a.loose_class in
-        elim (h.follow c.class f.0 each.shared ((each.exact f.0).0 f.1).0).meant (same c listed ∙ tag ∙ f.2) [
+        elim ((h.follow c.class f.0 each.shared ((each.exact f.0).0 f.1).0).meant (same c listed ∙ tag ∙ f.2)) [
           | inl sum ↦ no_sum k.declarations f.0 x.0 (value_at k.declarations u k.table.nodes c.class) x.1 sum
           | inr noted ↦ let e : Some f.0 ≡ None = sym noted.noted ∙ a.not_noted in cc
         ]
