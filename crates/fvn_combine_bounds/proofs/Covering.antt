@@ -1,4 +1,4 @@
--- A unifier is covered by the choice that its values obey, tags and all, which keeps to what sorts ask.
+-- A unifier is covered by the choice that its values obey, whose tags follow the heads, and which keeps to what sorts ask.
 use Rattle.fvn_combine_nodes.specs.Unifiers.{value_at}
 use Rattle.fvn_combine_complete.specs.Laws.{UnifiersGoWith, TablesHaveSums, ValuesObeyChoices, ObeyedChoicesFall, ObeyedChoicesCover}
 use Rattle.fvn_combine_bounds.specs.Laws.{ObeyedChoicesKeepBounds, SortedLeavesCover}
@@ -9,7 +9,7 @@ sorted_cover go_with sums obey fall cover keep d good problem kinded t made tabl
     let values = go_with d good.fits problem kinded t made table u unifier s leaf.closed admits in
     let chosen = obey d good t made has s heads leaf told y systems (value_at d u t.nodes) values obey_heads in
     let c = chosen.0 in
-    let ranked = fall d t made has s heads leaf told y (value_at d u t.nodes) values c chosen.3 in (
+    let ranked = fall d t made has s heads leaf told y systems (value_at d u t.nodes) values c chosen.3 in (
       c,
       record {
         possible = chosen.1;
@@ -30,5 +30,5 @@ sorted_cover go_with sums obey fall cover keep d good problem kinded t made tabl
             admits = admits;
           }
           y c chosen.3,
-      chosen.3.tags,
+      chosen.4,
     )

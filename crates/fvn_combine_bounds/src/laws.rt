@@ -10,8 +10,8 @@ ghost use Rattle.fvn_combine_bounds.specs.Laws.{
 };
 
 use fvn_combine_complete::{
-    obeyed_choices_cover, obeyed_choices_fall, tables_have_sums, unifiers_go_with,
-    values_obey_choices,
+    classes_have_one_kind, obeyed_choices_cover, obeyed_choices_fall, tables_have_sums,
+    unifiers_go_with, values_obey_choices,
 };
 use fvn_combine_nodes::unifiers_partition;
 use fvn_sort_bounds::{
@@ -54,8 +54,10 @@ pub fn narrow_classes_have_no_tag()
     ensures { NarrowClassesHaveNoTag }
 {
     unifiers_partition();
+    classes_have_one_kind();
     narrow_sorts_have_no_sum();
     other_classes_have_some_summand();
+    neutral_operators_admit_sums();
 }
 
 /// An operator whose identity leaves sorts alone admits sums of each sort of its kind.

@@ -108,7 +108,7 @@ tag_told (Some g) f = elim (operator_told g f) [
 ]
 
 -- axioms have no identity, or one
-bare_told : (a : Axioms) → HasNoIdentity a ⊎ ((e : OpId) × (identity a ≡ Some e))
+pub bare_told : (a : Axioms) → HasNoIdentity a ⊎ ((e : OpId) × (identity a ≡ Some e))
 bare_told Free = inl tt
 bare_told Comm = inl tt
 bare_told AssocComm = inl tt

@@ -1,5 +1,5 @@
 -- Minimal solutions that values choose are acceptable, and the values are made of their pieces.
-use Rattle.std.proofs.Common.{◌≡◌, ℕ, zero, suc, ◌<◌, ◌≤◌, ◌^◌, true, List, [], ◌∷◌, length, get_or, sym, ap, ◌∙◌, subst, inl, inr, arith, All, Contains, Option, pos, slice_get, sum_by}
+use Rattle.std.proofs.Common.{◌≡◌, ◌≢◌, ℕ, zero, suc, ◌<◌, ◌≤◌, ◌^◌, true, List, [], ◌∷◌, length, get_or, sym, ap, ◌∙◌, subst, inl, inr, arith, All, Contains, Option, pos, slice_get, sum_by}
 use Rattle.std.specs.Prelude.{Bool, ◌↔◌}
 use Rattle.std.proofs.lemmas.Bool.{cases_eq, or_cases}
 use Rattle.std.proofs.lemmas.List.{get_or-map, get_or_default}
@@ -18,24 +18,26 @@ use Rattle.fvn_combine_nodes.specs.Table.{NodeTable, IsWellMade}
 use Rattle.fvn_combine_nodes.specs.States.{class_of}
 use Rattle.fvn_combine_nodes.specs.declared.state.State.{State}
 use Rattle.fvn_combine_systems.specs.NodeSystems.{addends, sums, coefficient, row_at, IsNodeSystem}
+use Rattle.fvn_combine_systems.proofs.Carrying.{carry, carried, minimal_carried}
 use Rattle.fvn_combine_systems.proofs.Zeroes.{zero_told}
 use Rattle.fvn_combine_supports.specs.Laws.{MadeUpByTaken}
 use Rattle.fvn_combine_supports.specs.Pieces.{has_some, number_of, taken as with_pieces}
 use Rattle.fvn_combine_leaves.specs.Leaves.{IsLeaf, IsSumOperator, Uses, IsShared}
 use Rattle.fvn_combine_choices.specs.Binding.{IsBound, IsConstant, IsRequired, AreAsked}
 use Rattle.fvn_combine_choices.specs.Choosing.{Systems, Choice, AreSystems, AreTakenTogether, IsAcceptable, taken, member_count}
+use Rattle.fvn_combine_choices.proofs.Columns.{two_of_sum}
 use Rattle.fvn_combine_complete.specs.Laws.{IsChosen, NoAliases}
 use Rattle.fvn_combine_complete.specs.LaidOut.{laid_for}
 use Rattle.fvn_combine_choices.specs.Tables.{HasSums}
-use Rattle.fvn_combine_complete.specs.Obeying.{IsTold, GoWith, ObeyHeads, ObeyTags}
+use Rattle.fvn_combine_complete.specs.Obeying.{IsTold, GoWith, ObeyHeads, ObeyTags, TagsFollow, IsTakenAsSum}
 use Rattle.fvn_combine_complete.specs.Obeyed.{IsSummand, AreMadeOf}
 use Rattle.fvn_combine_complete.proofs.Aliases.{laid_out_are}
 use Rattle.fvn_combine_complete.proofs.Asked.{uses_told}
 use Rattle.fvn_combine_complete.proofs.Meeting.{component_at, not_unused}
 use Rattle.fvn_combine_complete.specs.Neutral.{IsNeutral}
-use Rattle.fvn_combine_complete.proofs.Marked.{number_by, marked, number_small, chosen_marked, AreMarks, marks_long, as_many_marked, laid_for_is, MarkedAt, marked_at, sums_grow, sums_stay, empty_passes}
+use Rattle.fvn_combine_complete.proofs.Marked.{number_by, marked, number_small, chosen_marked, AreMarks, marks_long, as_many_marked, laid_for_is, MarkedAt, marked_at, passing_marked, sums_grow, sums_stay, empty_passes}
 use Rattle.fvn_combine_complete.proofs.Taken.{contains_counted, laid_counts, sum_by_alike}
-use Rattle.fvn_combine_complete.proofs.Touching.{touched_none}
+use Rattle.fvn_combine_complete.proofs.Touching.{touched_none, bare_is}
 use Rattle.fvn_combine_complete.proofs.TwoSummands.{shared_two}
 use Rattle.fvn_combine_complete.proofs.Values.{bound_used, may_be, constant_not_noted, constants_differ, alike_live}
 
@@ -45,9 +47,9 @@ some_component [] h = absurd (omega (arith, h))
 some_component (zero ∷ v) h = let r = some_component v (let e = sum_by-cons (λ a. a) 0 v in omega (arith, h, e)) in (suc r.0, (let l = r.1 in omega (arith, l)), r.2)
 some_component (suc n ∷ v) h = (0, omega arith, omega arith)
 
-module _ (d : Declarations) (t : NodeTable) (made : IsWellMade t) (has : HasSums d t) (s : State) {heads : List (Option OpId)} (leaf : IsLeaf d t heads s) (told : IsTold d t (class_of s)) (values : ℕ → FlatTerm) (go_with : GoWith d t s values) (obey_heads : ObeyHeads d t heads values) (y : Systems) (systems : AreSystems d t (class_of s) y) (c : Choice) (obey : ObeyTags d t (class_of s) c.tag values)
+module _ (d : Declarations) (t : NodeTable) (made : IsWellMade t) (has : HasSums d t) (s : State) {heads : List (Option OpId)} (leaf : IsLeaf d t heads s) (told : IsTold d t (class_of s)) (values : ℕ → FlatTerm) (go_with : GoWith d t s values) (obey_heads : ObeyHeads d t s heads values) (y : Systems) (systems : AreSystems d t (class_of s) y) (c : Choice) (obey : ObeyTags d t (class_of s) c.tag values) (follow : TagsFollow d t (class_of s) c.tag values heads)
     (f : OpId) (sum : IsSumOperator d t f) (constants : List ℕ) (may_be_zero : List Bool) (are_asked : AreAsked d t (class_of s) c.tag f (y.columns f) constants may_be_zero) (ch : IsChosen d f values (y.columns f) (y.system f) (y.basis f) constants may_be_zero) (also : List ℕ → Bool) (marks : List Bool) (are : AreMarks also marks ch.pieces (y.basis f)) (number : c.number f ≡ number_by marks)
-    (neutral : (v : List ℕ) → also v ≡ true → IsNeutral d f) (bare : (v : List ℕ) → also v ≡ true → touched constants v ≡ 0) (law : MadeUpByTaken) where
+    (neutral : (v : List ℕ) → also v ≡ true → IsNeutral d f) (bare : (v : List ℕ) → also v ≡ true → touched constants v ≡ 0) (passes : IsNeutral d f → (v : List ℕ) → touched constants v ≡ 0 → also v ≡ true) (law : MadeUpByTaken) where
   abbrev class : ℕ → ℕ
   class = class_of s
 
@@ -181,6 +183,22 @@ module _ (d : Declarations) (t : NodeTable) (made : IsWellMade t) (has : HasSums
   pieces_sum : (j : ℕ) → column_sum j (chosen (number_of ch.pieces) (y.basis f)) ≡ column_sum j (with_pieces ch.pieces (y.basis f))
   pieces_sum j = ap (column_sum j) (law (y.system f).columns (y.basis f) sized ch.counted ch.pieces ch.made_up).0
 
+  -- where a class is taken as a sum, a solution without a constant that has it is taken beside the one with a constant
+  with_bare : (k l : ℕ) → IsTakenAsSum d t class c.tag values f k → IsConstant d t class c.tag f l → AreTakenTogether d t class y c f k l → 2 ≤ member_count y c f k
+  with_bare k l as_sum h together =
+      let w = carry as_sum.columns (y.columns f) as_sum.solution in
+      let kept = carried t class f as_sum.columns (y.columns f) as_sum.system (y.system f) as_sum.is is_node_system as_sum.solution in
+      let minimal = minimal_carried t class f as_sum.columns (y.columns f) as_sum.system (y.system f) as_sum.is is_node_system as_sum.solution as_sum.minimal in
+      let none = (bare_is d t class c.tag f (y.columns f) is_node_system.distinct (λ j m. (is_node_system.exact j).1 m.used.column) constants may_be_zero are_asked w).1 (λ j m. kept j ∙ as_sum.free j m) in
+      let among : Contains (taken y c f) w = subst (λ vs. Contains vs w) (sym taken_is) (passing_marked also marks ch.pieces (y.basis f) are w ((exact w).1 minimal) (passes as_sum.neutral w none)) in
+      let zero_of = kept l ∙ as_sum.free l h in
+      let differ : together.solution ≢ w = λ e. (let m = ap (λ v. component (y.columns f) v l) e in let q = together.right in omega (arith, m, q, zero_of)) in
+      let two = two_of_sum (λ v. component (y.columns f) v k) (taken y c f) together.solution w together.among among differ in
+      let p = together.left in
+      let has = as_sum.has in
+      let same = kept k in
+      omega (arith, two, p, has, same)
+
   -- a shared class is no sum of a constant alone
   not_alone : NoAliases → (k l : ℕ) → IsShared d t class k → IsBound d t class c.tag f k → IsConstant d t class c.tag f l → AreTakenTogether d t class y c f k l → 2 ≤ member_count y c f k
   not_alone law k l shared b h together =
@@ -200,14 +218,17 @@ module _ (d : Declarations) (t : NodeTable) (made : IsWellMade t) (has : HasSums
       let laid = laid_counts (y.columns f) k (values l) (taken y c f) (marked marks ch.pieces) m.0 m.1 (omega (arith, place_left, p)) (subst (λ z. Contains z (values l)) (sym piece) (contains_here (values l) [])) in
       let same = made_for k u (values l) in
       let some = (contains_counted (values l) (parts d f (values k)) (omega (arith, laid, same))).1 in
-      let two = shared_two d t made has s leaf told values go_with c.tag obey f k shared b (omega (arith, some)) in
-      let same_length = ap (λ n. length (parts d f (values n))) a.of in
-      let count = law d f values (y.columns f) (y.system f) (y.basis f) exact constants may_be_zero ch r.place a.column e.column r.within (has_pieces m.0 l m.1 h (omega (arith, place_right, q))) a.within (used_column k u)
-      ((are_asked.are_constant e.column).1 (e.within, subst (IsConstant d t class c.tag f) (sym e.of) h)) (omega (arith, two, same_length)) (omega (arith, left, p)) (omega (arith, right, q)) in
-      let sums = counted k u in
-      let few = pieces_sum a.column in
-      let grow = sums_grow also a.column marks ch.pieces (y.basis f) are in
-      omega (arith, count, sums, few, grow)
+      elim (shared_two d t made has s leaf told values go_with c.tag obey f k shared b (omega (arith, some))) [
+        | inl two ↦ (
+            let same_length = ap (λ n. length (parts d f (values n))) a.of in
+            let count = law d f values (y.columns f) (y.system f) (y.basis f) exact constants may_be_zero ch r.place a.column e.column r.within (has_pieces m.0 l m.1 h (omega (arith, place_right, q))) a.within (used_column k u)
+            ((are_asked.are_constant e.column).1 (e.within, subst (IsConstant d t class c.tag f) (sym e.of) h)) (omega (arith, two, same_length)) (omega (arith, left, p)) (omega (arith, right, q)) in
+            let sums = counted k u in
+            let few = pieces_sum a.column in
+            let grow = sums_grow also a.column marks ch.pieces (y.basis f) are in
+            omega (arith, count, sums, few, grow))
+        | inr as_sum ↦ with_bare k l as_sum h together
+      ]
 
   -- constants of one solution that is taken have one value
   alike_taken : (m : ℕ) (v : List ℕ) → m < length (taken y c f) → get_or (taken y c f) m [] ≡ v → (k l : ℕ) → IsConstant d t class c.tag f k → IsConstant d t class c.tag f l → 0 < component (y.columns f) v k → 0 < component (y.columns f) v l → values k ≡ values l
@@ -231,8 +252,8 @@ module _ (d : Declarations) (t : NodeTable) (made : IsWellMade t) (has : HasSums
         let v_is : get_or (y.basis f) r.place [] ≡ together.solution = sym (solution_from m.0 m.1) ∙ is in
         let minimal = (exact together.solution).0 (subst (Contains (y.basis f)) v_is (Contains-get_or (y.basis f) r.place [] r.within)) in
         absurd (constants_differ d t made has s leaf told values go_with c.tag obey f k l hk hl n
-        (leaf.constants f k l (may_be d t made has s leaf told values go_with c.tag obey f k hk) (may_be d t made has s leaf told values go_with c.tag obey f l hl)
-        (constant_not_noted d t made has s leaf told values go_with c.tag obey obey_heads f k hk) (constant_not_noted d t made has s leaf told values go_with c.tag obey obey_heads f l hl)
+        (leaf.constants f k l (may_be d t class told c.tag f k hk) (may_be d t class told c.tag f l hl)
+        (constant_not_noted d t made has s leaf told values go_with c.tag obey obey_heads follow f k hk) (constant_not_noted d t made has s leaf told values go_with c.tag obey obey_heads follow f l hl)
         (record { columns = y.columns f; system = y.system f; is = is_node_system; solution = together.solution; minimal = minimal; left = together.left; right = together.right })
         (alike_live d t made has s leaf told values go_with c.tag obey f (y.columns f) together.solution alike))
         (alike k l hk hl together.left together.right))

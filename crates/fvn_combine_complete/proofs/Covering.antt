@@ -63,7 +63,7 @@ leaves_cover go_with sums obey fall cover d good problem kinded t made table s h
     let values = go_with d good.fits problem kinded t made table u unifier s leaf.closed admits in
     let chosen = obey d good t made has s heads leaf told y systems (value_at d u t.nodes) values obey_heads in
     let c = chosen.0 in
-    let ranked = fall d t made has s heads leaf told y (value_at d u t.nodes) values c chosen.3 in (
+    let ranked = fall d t made has s heads leaf told y systems (value_at d u t.nodes) values c chosen.3 in (
       c,
       record {
         possible = chosen.1;

@@ -11,20 +11,21 @@ use Rattle.fvn_terms.specs.declared.declarations.Declarations.{Declarations}
 use Rattle.fvn_terms.specs.Signature.{axioms}
 use Rattle.fvn_forms.specs.Flat.{FlatTerm, fapp, fpack, symbols}
 use Rattle.fvn_forms.specs.InOrder.{sort}
-use Rattle.fvn_forms.specs.Canon.{parts, sum, build}
+use Rattle.fvn_forms.specs.Canon.{parts, sum as sum_of, build}
 use Rattle.fvn_forms.proofs.Sizes.{all_symbols, all_symbols-sort, symbols_unjoined, piece_smaller}
 use Rattle.fvn_forms.proofs.Sums.{funpack-fpack, sum_parts}
 use Rattle.fvn_flat.specs.SolvedLists.{component, IsSimple}
 use Rattle.fvn_combine_nodes.specs.Table.{NodeTable, IsWellMade}
 use Rattle.fvn_combine_nodes.specs.States.{class_of}
 use Rattle.fvn_combine_nodes.specs.declared.state.State.{State}
-use Rattle.fvn_combine_leaves.specs.Leaves.{IsLeaf, IsSumOperator, IsSolid, Uses}
+use Rattle.fvn_combine_leaves.specs.Leaves.{IsLeaf, IsSumOperator, IsSolid, Uses, IsShared, AreTouched}
 use Rattle.fvn_combine_choices.specs.Binding.{IsBound, solid, alone, tagged, IsConstant}
-use Rattle.fvn_combine_choices.specs.Choosing.{Systems, Choice, AreTakenTogether, argument, summand, Falls, taken}
+use Rattle.fvn_combine_choices.specs.Choosing.{Systems, Choice, AreSystems, AreTakenTogether, argument, summand, Falls, taken}
 use Rattle.fvn_combine_choices.specs.Tables.{HasSums}
-use Rattle.fvn_combine_complete.specs.Obeying.{IsTold, GoWith}
+use Rattle.fvn_combine_complete.specs.Obeying.{IsTold, GoWith, IsTakenAsSum}
 use Rattle.fvn_combine_complete.specs.Obeyed.{AreObeying}
 use Rattle.fvn_combine_nodes.proofs.Heading.{build_free, build_commutative}
+use Rattle.fvn_combine_choices.proofs.Columns.{chosen_listed}
 use Rattle.fvn_combine_complete.proofs.Taken.{laid_counts, contains_counted}
 use Rattle.fvn_combine_complete.proofs.TwoSummands.{shared_two, solid_two}
 use Rattle.fvn_combine_complete.proofs.Values.{bound_used, constant_why}
@@ -61,7 +62,7 @@ argument_smaller d f simple l q c = go (axioms d f) refl
     go AssocComm e = absurd (subst IsSimple e simple)
     go (AssocCommId o) e = absurd (subst IsSimple e simple)
 
-module _ (d : Declarations) (t : NodeTable) (made : IsWellMade t) (has : HasSums d t) (s : State) (heads : List (Option OpId)) (leaf : IsLeaf d t heads s) (told : IsTold d t (class_of s)) (y : Systems) (values : ℕ → FlatTerm) (go_with : GoWith d t s values) (c : Choice) (obeying : AreObeying d t (class_of s) y c values) where
+module _ (d : Declarations) (t : NodeTable) (made : IsWellMade t) (has : HasSums d t) (s : State) (heads : List (Option OpId)) (leaf : IsLeaf d t heads s) (told : IsTold d t (class_of s)) (y : Systems) (systems : AreSystems d t (class_of s) y) (values : ℕ → FlatTerm) (go_with : GoWith d t s values) (c : Choice) (obeying : AreObeying d t (class_of s) y c values) where
   abbrev class : ℕ → ℕ
   class = class_of s
 
@@ -74,14 +75,14 @@ module _ (d : Declarations) (t : NodeTable) (made : IsWellMade t) (has : HasSums
   abbrev first : OpId
   first = record { 0 = 0 }
 
-  -- 1 where no operator without an identity heads a member, and no two operators use the class, else 0
+  -- 0 where an operator without an identity heads a member; else 1 where two operators use the class, and 2 where no two do
   abbrev by_other : (g : OpId) (k : ℕ) → Users g k → ℕ
-  by_other g k (inl h) = 0
-  by_other g k (inr only) = 1
+  by_other g k (inl h) = 1
+  by_other g k (inr only) = 2
 
   abbrev by_user : (k : ℕ) → Users first k → ℕ
   by_user k (inl g) = by_other g.0 k (told.users g.0 k)
-  by_user k (inr only) = 1
+  by_user k (inr only) = 2
 
   abbrev by_head : (k : ℕ) → Heads k → ℕ
   by_head k (inl p) = 0
@@ -90,61 +91,80 @@ module _ (d : Declarations) (t : NodeTable) (made : IsWellMade t) (has : HasSums
   abbrev alias : ℕ → ℕ
   alias k = by_head k (told.heads k)
 
-  alias_small : (k : ℕ) → alias k ≤ 1
+  -- 1 or 2 where no operator without an identity heads a member
+  user_bounds : (k : ℕ) (o : Users first k) → (1 ≤ by_user k o) × (by_user k o ≤ 2)
+  user_bounds k (inl g) = of_other (told.users g.0 k)
+    where
+      of_other : (o : Users g.0 k) → (1 ≤ by_other g.0 k o) × (by_other g.0 k o ≤ 2)
+      of_other (inl h) = (omega arith, omega arith)
+      of_other (inr h) = (omega arith, omega arith)
+  user_bounds k (inr h) = (omega arith, omega arith)
+
+  alias_small : (k : ℕ) → alias k ≤ 2
   alias_small k = of_head (told.heads k)
     where
-      of_other : (g : OpId) (o : Users g k) → by_other g k o ≤ 1
-      of_other g (inl h) = omega arith
-      of_other g (inr h) = omega arith
-
-      of_user : (o : Users first k) → by_user k o ≤ 1
-      of_user (inl g) = of_other g.0 (told.users g.0 k)
-      of_user (inr h) = omega arith
-
-      of_head : (o : Heads k) → by_head k o ≤ 1
+      of_head : (o : Heads k) → by_head k o ≤ 2
       of_head (inl h) = omega arith
-      of_head (inr h) = of_user (told.users first k)
+      of_head (inr h) = (user_bounds k (told.users first k)).1
 
-  -- a class that one operator alone uses is an alias
-  alone_alias : (f : OpId) (k : ℕ) → ((g : OpId) → IsSolid d t class g k → ⊥) → ((g : OpId) → Uses d t class g k → g ≡ f) → alias k ≡ 1
+  soft_alias : (k : ℕ) → ((g : OpId) → IsSolid d t class g k → ⊥) → 1 ≤ alias k
+  soft_alias k soft = of_head (told.heads k)
+    where
+      of_head : (o : Heads k) → 1 ≤ by_head k o
+      of_head (inl h) = absurd (soft h.0 h.1)
+      of_head (inr h) = (user_bounds k (told.users first k)).0
+
+  solid_alias : (g : OpId) (k : ℕ) → IsSolid d t class g k → alias k ≡ 0
+  solid_alias g k h = of_head (told.heads k)
+    where
+      of_head : (o : Heads k) → by_head k o ≡ 0
+      of_head (inl p) = refl
+      of_head (inr soft) = absurd (soft g h)
+
+  -- 2 where one operator alone uses the class
+  alone_alias : (f : OpId) (k : ℕ) → ((g : OpId) → IsSolid d t class g k → ⊥) → ((g : OpId) → Uses d t class g k → g ≡ f) → alias k ≡ 2
   alone_alias f k soft only = of_head (told.heads k)
     where
-      of_other : (g : OpId) → g ≡ f → (o : Users g k) → by_other g k o ≡ 1
+      of_other : (g : OpId) → g ≡ f → (o : Users g k) → by_other g k o ≡ 2
       of_other g e (inl h) = absurd (h.1 (only h.0 h.2 ∙ sym e))
       of_other g e (inr h) = refl
 
-      of_user : (o : Users first k) → by_user k o ≡ 1
+      of_user : (o : Users first k) → by_user k o ≡ 2
       of_user (inl g) = of_other g.0 (only g.0 g.2) (told.users g.0 k)
       of_user (inr h) = refl
 
-      of_head : (o : Heads k) → by_head k o ≡ 1
+      of_head : (o : Heads k) → by_head k o ≡ 2
       of_head (inl h) = absurd (soft h.0 h.1)
       of_head (inr h) = of_user (told.users first k)
 
-  -- a constant is none
-  constant_no_alias : (f : OpId) (k : ℕ) → IsConstant d t class c.tag f k → alias k ≡ 0
-  constant_no_alias f k h = of_head (told.heads k)
+  -- at most 1 for a shared class
+  shared_alias : (k : ℕ) → IsShared d t class k → alias k ≤ 1
+  shared_alias k shared = of_head (told.heads k)
     where
-      not_only : (g : OpId) → ((o : OpId) → IsSolid d t class o k → ⊥) → ((o : OpId) → Uses d t class o k → o ≡ g) → ⊥
-      not_only g soft only = elim (constant_why d t made has s leaf told values go_with c.tag obeying.tags f k h) [
-        | inl p ↦ soft p.0 p.2
-        | inr shared ↦ shared.different (only shared.first shared.uses_first ∙ sym (only shared.second shared.uses_second))
-      ]
+      not_only : (g : OpId) → ((o : OpId) → Uses d t class o k → o ≡ g) → ⊥
+      not_only g only = shared.different (only shared.first shared.uses_first ∙ sym (only shared.second shared.uses_second))
 
-      of_other : ((o : OpId) → IsSolid d t class o k → ⊥) → (g : OpId) (o : Users g k) → by_other g k o ≡ 0
-      of_other soft g (inl h) = refl
-      of_other soft g (inr only) = absurd (not_only g soft only)
+      of_other : (g : OpId) (o : Users g k) → by_other g k o ≤ 1
+      of_other g (inl h) = omega arith
+      of_other g (inr only) = absurd (not_only g only)
 
-      of_user : ((o : OpId) → IsSolid d t class o k → ⊥) → (o : Users first k) → by_user k o ≡ 0
-      of_user soft (inl g) = of_other soft g.0 (told.users g.0 k)
-      of_user soft (inr only) = absurd (not_only first soft only)
+      of_user : (o : Users first k) → by_user k o ≤ 1
+      of_user (inl g) = of_other g.0 (told.users g.0 k)
+      of_user (inr only) = absurd (not_only first only)
 
-      of_head : (o : Heads k) → by_head k o ≡ 0
-      of_head (inl h) = refl
-      of_head (inr soft) = of_user soft (told.users first k)
+      of_head : (o : Heads k) → by_head k o ≤ 1
+      of_head (inl h) = omega arith
+      of_head (inr soft) = of_user (told.users first k)
+
+  -- and for a constant
+  constant_alias : (f : OpId) (k : ℕ) → IsConstant d t class c.tag f k → alias k ≤ 1
+  constant_alias f k h = elim (constant_why d t class told c.tag f k h) [
+    | inl p ↦ (let z = solid_alias p.0 k p.2 in omega (arith, z))
+    | inr shared ↦ shared_alias k shared
+  ]
 
   abbrev rank : ℕ → ℕ
-  rank k = 2 * symbols (values k) + alias k
+  rank k = 3 * symbols (values k) + alias k
 
   -- the value of a constant is a summand of what a sum with it is bound to
   constant_among : (f : OpId) → IsSumOperator d t f → (k l : ℕ) → IsBound d t class c.tag f k → IsConstant d t class c.tag f l → AreTakenTogether d t class y c f k l → Contains (parts d f (values k)) (values l)
@@ -162,34 +182,58 @@ module _ (d : Declarations) (t : NodeTable) (made : IsWellMade t) (has : HasSums
       let same = m.made k (bound_used d t made has s leaf told values go_with c.tag obeying.tags f k b) (values l) in
       contains_counted (values l) (parts d f (values k)) (omega (arith, counted, same))
 
-  falls_to_summand : (f : OpId) (k l : ℕ) → IsBound d t class c.tag f k → IsConstant d t class c.tag f l → Contains (parts d f (values k)) (values l) → rank l < rank k
-  falls_to_summand f k l b h among = elim (cases_lt (length (parts d f (values k))) 2) [
+  -- a solution that is taken is minimal
+  taken_touched : (f : OpId) → IsSumOperator d t f → (k l : ℕ) → AreTakenTogether d t class y c f k l → AreTouched d t class f k l
+  taken_touched f sum k l together = record {
+    columns = y.columns f;
+    system = y.system f;
+    is = systems.is_system f sum;
+    solution = together.solution;
+    minimal = (systems.exact f sum together.solution).0 (chosen_listed (c.number f) (y.basis f) together.solution together.among);
+    left = together.left;
+    right = together.right;
+  }
+
+  -- a constant of a class that is taken as a sum, and has its value, has the head of an operator without an identity
+  taken_alias : (f : OpId) → IsSumOperator d t f → (k l : ℕ) → IsTakenAsSum d t class c.tag values f k → IsConstant d t class c.tag f l → AreTakenTogether d t class y c f k l → values l ≡ values k → alias l ≡ 0
+  taken_alias f sum k l as_sum h together same = elim (constant_why d t class told c.tag f l h) [
+    | inl p ↦ solid_alias p.0 l p.2
+    | inr shared ↦ absurd (as_sum.differ l h shared (taken_touched f sum k l together) same)
+  ]
+
+  falls_to_summand : (f : OpId) → IsSumOperator d t f → (k l : ℕ) → IsBound d t class c.tag f k → IsConstant d t class c.tag f l → AreTakenTogether d t class y c f k l → Contains (parts d f (values k)) (values l) → rank l < rank k
+  falls_to_summand f sum k l b h together among = elim (cases_lt (length (parts d f (values k))) 2) [
     | inr two ↦ (
         let a = alias_small l in
         let n = each_at (λ q. symbols q < symbols (values k)) (parts d f (values k)) (values l) (piece_smaller d f (values k) two) among in
         omega (arith, a, n))
     | inl few ↦ (
-        let same = ap symbols (sym (only_value (parts d f (values k)) refl among few)) in
-        let a = constant_no_alias f l h in
-        let e = is_alias b few in
-        omega (arith, same, a, e))
+        let value = only_value (parts d f (values k)) refl among few in
+        let same = ap symbols value in
+        let less = below b few value in
+        omega (arith, same, less))
   ]
     where
       only_value : (ps : List FlatTerm) → parts d f (values k) ≡ ps → Contains ps (values l) → length ps < 2 → values l ≡ values k
       only_value [] e m n = absurd (contains_none (values l) m)
       only_value (p ∷ []) e m n = elim (contains_cases p [] (values l) m) [
-        | inl q ↦ sym q ∙ (ap (sum d f) (sym e) ∙ sum_parts d f (values k) (go_with.are.settled k))
+        | inl q ↦ sym q ∙ (ap (sum_of d f) (sym e) ∙ sum_parts d f (values k) (go_with.are.settled k))
         | inr r ↦ absurd (contains_none (values l) r)
       ]
       only_value (p ∷ q ∷ ps) e m n = absurd (omega (arith, n))
 
-      is_alias : IsBound d t class c.tag f k → length (parts d f (values k)) < 2 → alias k ≡ 1
-      is_alias (solid assoc m) few = absurd (let two = solid_two d t made has s leaf told values go_with c.tag obeying.tags f k assoc m in omega (arith, two, few))
-      is_alias (alone u soft only) few = alone_alias f k soft only
-      is_alias (tagged u shared e) few = absurd (
+      below : IsBound d t class c.tag f k → length (parts d f (values k)) < 2 → values l ≡ values k → alias l < alias k
+      below (solid assoc m) few value = absurd (let two = solid_two d t made has s leaf told values go_with c.tag obeying.tags f k assoc m in omega (arith, two, few))
+      below (alone u soft only) few value = (let e = alone_alias f k soft only in let z = constant_alias f l h in omega (arith, e, z))
+      below (tagged u shared e) few value =
           let some = among.1 in
-          let two = shared_two d t made has s leaf told values go_with c.tag obeying.tags f k shared (tagged u shared e) (omega (arith, some)) in
-          omega (arith, two, few))
+          elim (shared_two d t made has s leaf told values go_with c.tag obeying.tags f k shared (tagged u shared e) (omega (arith, some))) [
+            | inl two ↦ absurd (omega (arith, two, few))
+            | inr as_sum ↦ (
+                let z = taken_alias f sum k l as_sum h together value in
+                let o = soft_alias k shared.soft in
+                omega (arith, z, o))
+          ]
 
   falls : Falls d t class y c rank
   falls k l (argument i f ks j over simple of among other) =
@@ -199,7 +243,7 @@ module _ (d : Declarations) (t : NodeTable) (made : IsWellMade t) (has : HasSums
       let e = ap (λ n. symbols (values n)) other in
       let small = alias_small l in
       omega (arith, smaller, a, e, small)
-  falls k l (summand f sum b h together) = falls_to_summand f k l b h (constant_among f sum k l b h together)
+  falls k l (summand f sum b h together) = falls_to_summand f sum k l b h together (constant_among f sum k l b h together)
 
   pub ranked : (rank : ℕ → ℕ) × Falls d t class y c rank
   ranked = (rank, falls)

@@ -1,10 +1,11 @@
 -- Solutions that are marked, with their pieces.
-use Rattle.std.proofs.Common.{◌≡◌, ℕ, zero, suc, ◌+◌, ◌*◌, ◌/◌, ◌%◌, ◌^◌, ◌<◌, ◌≤◌, Bool, true, false, List, [], ◌∷◌, ◌++◌, length, get_or, refl, sym, ap, ◌∙◌, arith}
+use Rattle.std.proofs.Common.{◌≡◌, ℕ, zero, suc, ◌+◌, ◌*◌, ◌/◌, ◌%◌, ◌^◌, ◌<◌, ◌≤◌, Bool, true, false, List, [], ◌∷◌, ◌++◌, length, get_or, refl, sym, ap, ◌∙◌, subst, inl, inr, arith, Contains}
 use Rattle.std.specs.Prelude.{nat_eq, if◌then◌else◌, ◌||◌}
 use Rattle.std.proofs.Math.Nat.{pow-suc}
 use Rattle.std.proofs.lemmas.Bool.{eq-eqb, ne_eqb}
 use Rattle.std.proofs.lemmas.Nat.{shr-shr}
 use Rattle.std.proofs.lemmas.List.Sums.{sum_by-cons}
+use Rattle.fvn_base.proofs.Membership.{contains_here, contains_later, contains_cases, contains_none}
 use Rattle.fvn_forms.specs.Flat.{FlatTerm}
 use Rattle.fvn_forms.specs.InOrder.{one_if}
 use Rattle.fvn_acunify.specs.ValidChoice.{chosen, column_sum}
@@ -112,6 +113,25 @@ module _ (also : List ℕ → Bool) where
   also_marked (b ∷ marks) ([] ∷ zs) (v ∷ vs) h zero l e = h.0 ∙ e
   also_marked (b ∷ marks) ((x ∷ xs) ∷ zs) (v ∷ vs) h zero l e = h.0
   also_marked (b ∷ marks) (z ∷ zs) (v ∷ vs) h (suc i) l e = also_marked marks zs vs h.1 i (omega (arith, l)) e
+
+  pub passing_marked : (marks : List Bool) (zs : List (List FlatTerm)) (vs : List (List ℕ)) → AreMarks also marks zs vs → (v : List ℕ) → Contains vs v → also v ≡ true → Contains (marked marks vs) v
+  passing_marked [] [] [] h v c e = absurd (contains_none v c)
+  passing_marked [] [] (u ∷ vs) h v c e = absurd h
+  passing_marked [] (z ∷ zs) vs h v c e = absurd h
+  passing_marked (b ∷ marks) [] vs h v c e = absurd h
+  passing_marked (b ∷ marks) (z ∷ zs) [] h v c e = absurd h
+  passing_marked (true ∷ marks) (z ∷ zs) (u ∷ vs) h v c e = elim (contains_cases u vs v c) [
+    | inl same ↦ subst (Contains (u ∷ marked marks vs)) same (contains_here u (marked marks vs))
+    | inr r ↦ contains_later u (marked marks vs) v (passing_marked marks zs vs h.1 v r e)
+  ]
+  passing_marked (false ∷ marks) (z ∷ zs) (u ∷ vs) h v c e = elim (contains_cases u vs v c) [
+    | inl same ↦ absurd (unmarked z h.0 same)
+    | inr r ↦ passing_marked marks zs vs h.1 v r e
+  ]
+    where
+      unmarked : (z : List FlatTerm) → false ≡ (has_some z || also u) → u ≡ v → ⊥
+      unmarked [] n same = let m : false ≡ true = n ∙ ap also same ∙ e in cc
+      unmarked (x ∷ xs) n same = let m : false ≡ true = n in cc
 
   pub as_many_marked : (marks : List Bool) (zs : List (List FlatTerm)) (vs : List (List ℕ)) → AreMarks also marks zs vs → length (marked marks zs) ≡ length (marked marks vs)
   as_many_marked [] [] [] h = refl

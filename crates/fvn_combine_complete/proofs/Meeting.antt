@@ -27,7 +27,7 @@ use Rattle.fvn_combine_supports.specs.Pieces.{AreAlike}
 use Rattle.fvn_combine_leaves.specs.Leaves.{IsLeaf, IsSumOperator, Uses}
 use Rattle.fvn_combine_choices.specs.Binding.{IsConstant, AreAsked}
 use Rattle.fvn_combine_choices.specs.Tables.{HasSums}
-use Rattle.fvn_combine_complete.specs.Obeying.{IsTold, GoWith, ObeyHeads, ObeyTags}
+use Rattle.fvn_combine_complete.specs.Obeying.{IsTold, GoWith, ObeyHeads, ObeyTags, TagsFollow}
 use Rattle.fvn_combine_complete.specs.Laws.{CountsMeet}
 use Rattle.fvn_combine_complete.proofs.Values.{constant_alone, constant_not_noted, constants_differ, alike_live, may_be, bound_used, required_some}
 pub use Rattle.fvn_combine_systems.proofs.Weighing.{component_at}
@@ -40,7 +40,7 @@ not_unused d t class f columns system is j l u z =
     let zero = All-contains (λ r. get_or r j (pos 0) ≡ pos 0) (rows_of system) row z listed in
     u.other (sym (get_or-map (coefficient class u.row (addends f (slice_get t.nodes u.row))) columns j 0 (pos 0) l) ∙ zero)
 
-module _ (law : CountsSolve) (d : Declarations) (t : NodeTable) (made : IsWellMade t) (has : HasSums d t) (s : State) {heads : List (Option OpId)} (leaf : IsLeaf d t heads s) (told : IsTold d t (class_of s)) (values : ℕ → FlatTerm) (go_with : GoWith d t s values) (obey_heads : ObeyHeads d t heads values) (tag : ℕ → Option OpId) (obey : ObeyTags d t (class_of s) tag values) (f : OpId) (sum : IsSumOperator d t f) (columns : List ℕ) (system : System) (is : IsNodeSystem t (class_of s) f columns system) where
+module _ (law : CountsSolve) (d : Declarations) (t : NodeTable) (made : IsWellMade t) (has : HasSums d t) (s : State) {heads : List (Option OpId)} (leaf : IsLeaf d t heads s) (told : IsTold d t (class_of s)) (values : ℕ → FlatTerm) (go_with : GoWith d t s values) (obey_heads : ObeyHeads d t s heads values) (tag : ℕ → Option OpId) (obey : ObeyTags d t (class_of s) tag values) (follow : TagsFollow d t (class_of s) tag values heads) (f : OpId) (sum : IsSumOperator d t f) (columns : List ℕ) (system : System) (is : IsNodeSystem t (class_of s) f columns system) where
   add_up : AddUp d t (class_of s) f values
   add_up i a b listed over = go_with.are.built i f (a ∷ b ∷ []) over
 
@@ -101,8 +101,8 @@ module _ (law : CountsSolve) (d : Declarations) (t : NodeTable) (made : IsWellMa
                 let left : 0 < component columns v k = let a = component_at columns v is.distinct c rc.0 in omega (arith, a, p) in
                 let right : 0 < component columns v l = let a = component_at columns v is.distinct e re.0 in omega (arith, a, q) in
                 constants_differ d t made has s leaf told values go_with tag obey f k l rc.1 re.1 (columns_apart c e ne rc.0 re.0)
-                (leaf.constants f k l (may_be d t made has s leaf told values go_with tag obey f k rc.1) (may_be d t made has s leaf told values go_with tag obey f l re.1)
-                (constant_not_noted d t made has s leaf told values go_with tag obey obey_heads f k rc.1) (constant_not_noted d t made has s leaf told values go_with tag obey obey_heads f l re.1)
+                (leaf.constants f k l (may_be d t (class_of s) told tag f k rc.1) (may_be d t (class_of s) told tag f l re.1)
+                (constant_not_noted d t made has s leaf told values go_with tag obey obey_heads follow f k rc.1) (constant_not_noted d t made has s leaf told values go_with tag obey obey_heads follow f l re.1)
                 (record { columns = columns; system = system; is = is; solution = v; minimal = (exact v).0 b; left = left; right = right })
                 (alike_live d t made has s leaf told values go_with tag obey f columns v (alike_values v alike)))
                 (alike c e m n p q);
@@ -115,7 +115,7 @@ module _ (law : CountsSolve) (d : Declarations) (t : NodeTable) (made : IsWellMa
           };
         }
 
-pub values_meet : (law : CountsSolve) (d : Declarations) (t : NodeTable) → IsWellMade t → HasSums d t → (s : State) (heads : List (Option OpId)) → IsLeaf d t heads s → IsTold d t (class_of s) → (values : ℕ → FlatTerm) → GoWith d t s values → ObeyHeads d t heads values → (tag : ℕ → Option OpId) → ObeyTags d t (class_of s) tag values →
+pub values_meet : (law : CountsSolve) (d : Declarations) (t : NodeTable) → IsWellMade t → HasSums d t → (s : State) (heads : List (Option OpId)) → IsLeaf d t heads s → IsTold d t (class_of s) → (values : ℕ → FlatTerm) → GoWith d t s values → ObeyHeads d t s heads values → (tag : ℕ → Option OpId) → ObeyTags d t (class_of s) tag values → TagsFollow d t (class_of s) tag values heads →
     (f : OpId) → IsSumOperator d t f → (columns : List ℕ) (system : System) → IsNodeSystem t (class_of s) f columns system → (basis : List (List ℕ)) → ((v : List ℕ) → Contains basis v ↔ IsMinimal system.columns (rows_of system) v) →
     (constants : List ℕ) (may_be_zero : List Bool) → AreAsked d t (class_of s) tag f columns constants may_be_zero → CountsMeet d f values columns system basis constants may_be_zero
-values_meet law d t made has s heads leaf told values go_with obey_heads tag obey f sum columns system is basis exact constants may_be_zero asked = counts_meet law d t made has s leaf told values go_with obey_heads tag obey f sum columns system is basis exact constants may_be_zero asked
+values_meet law d t made has s heads leaf told values go_with obey_heads tag obey follow f sum columns system is basis exact constants may_be_zero asked = counts_meet law d t made has s leaf told values go_with obey_heads tag obey follow f sum columns system is basis exact constants may_be_zero asked

@@ -1,9 +1,8 @@
 -- Values that go with a leaf obey a possible choice that is full.
-use Rattle.std.proofs.Common.{◌≡◌, ℕ, ◌/◌, ◌%◌, ◌^◌, ◌<◌, true, false, List, [], length, get_or, refl, sym, ap, ◌∙◌, subst, inl, inr, arith, Option, Some, None}
-use Rattle.std.specs.Prelude.{◌↔◌, Bool, nat_eq}
+use Rattle.std.proofs.Common.{◌≡◌, ℕ, ◌/◌, ◌%◌, ◌^◌, ◌<◌, true, false, List, [], length, get_or, refl, sym, ap, ◌∙◌, subst, inl, inr, arith, Option}
+use Rattle.std.specs.Prelude.{Bool, nat_eq}
 use Rattle.std.proofs.lemmas.Bool.{eqb-true, eq-eqb, true≢false}
 use Rattle.fvn_base.specs.Decided.{Decided}
-use Rattle.fvn_base.proofs.Options.{Some-injective}
 use Rattle.fvn_terms.specs.declared.plain.OpId.{OpId}
 use Rattle.fvn_terms.specs.declared.declarations.Declarations.{Declarations}
 use Rattle.fvn_forms.specs.Flat.{FlatTerm}
@@ -13,73 +12,38 @@ use Rattle.fvn_combine_nodes.specs.Table.{NodeTable, IsWellMade}
 use Rattle.fvn_combine_nodes.specs.States.{class_of}
 use Rattle.fvn_combine_nodes.specs.declared.state.State.{State}
 use Rattle.fvn_combine_supports.specs.Laws.{MadeUpByTaken}
-use Rattle.fvn_combine_leaves.specs.Leaves.{IsLeaf, IsSumOperator, Uses, IsShared}
+use Rattle.fvn_combine_leaves.specs.Leaves.{IsLeaf, IsSumOperator}
 use Rattle.fvn_combine_choices.specs.Choosing.{Systems, Choice, AreSystems, IsAcceptable, IsPossible}
 use Rattle.fvn_combine_complete.specs.Laws.{ValuesChoose, NoAliases, IsChosen}
 use Rattle.fvn_combine_choices.specs.Tables.{HasSums}
-use Rattle.fvn_combine_complete.specs.Obeying.{IsTold, GoWith, IsSumOrIdentityOf, ObeyHeads, ObeyTags}
+use Rattle.fvn_combine_complete.specs.Obeying.{IsTold, GoWith, ObeyHeads, TagsFollow}
 use Rattle.fvn_combine_complete.specs.Full.{HasNoConstant, IsFull}
 use Rattle.fvn_combine_complete.specs.Neutral.{IsNeutral}
 use Rattle.fvn_combine_complete.specs.Obeyed.{AreMadeOf, AreObeying}
-use Rattle.fvn_combine_complete.proofs.Asked.{sum_told, user_told, shared_told, Asked, asked}
+use Rattle.fvn_combine_complete.proofs.Asked.{sum_told, Asked, asked}
 use Rattle.fvn_combine_complete.proofs.Chosen.{made_of, acceptable}
 use Rattle.fvn_combine_complete.proofs.Marked.{number_by, marked, AreMarks, marks_of, are_marks, marks_long, also_marked, bit_marked}
 use Rattle.fvn_combine_complete.proofs.NeutralTold.{neutral_told}
 use Rattle.fvn_combine_complete.proofs.Touching.{bare_is}
-use Rattle.fvn_combine_complete.proofs.Tagging.{tags_exist}
+use Rattle.fvn_combine_complete.proofs.Tagging.{RightTags, right_tags}
 
-module _ (choose : ValuesChoose) (aliases : NoAliases) (law : MadeUpByTaken) (d : Declarations) (good : IsGood d) (t : NodeTable) (made : IsWellMade t) (has : HasSums d t) (s : State) (heads : List (Option OpId)) (leaf : IsLeaf d t heads s) (told : IsTold d t (class_of s)) (y : Systems) (systems : AreSystems d t (class_of s) y) (values : ℕ → FlatTerm) (go_with : GoWith d t s values) (obey_heads : ObeyHeads d t heads values) where
+module _ (choose : ValuesChoose) (aliases : NoAliases) (law : MadeUpByTaken) (d : Declarations) (good : IsGood d) (t : NodeTable) (made : IsWellMade t) (has : HasSums d t) (s : State) (heads : List (Option OpId)) (leaf : IsLeaf d t heads s) (told : IsTold d t (class_of s)) (y : Systems) (systems : AreSystems d t (class_of s) y) (values : ℕ → FlatTerm) (go_with : GoWith d t s values) (obey_heads : ObeyHeads d t s heads values) where
   abbrev class : ℕ → ℕ
   class = class_of s
 
-  -- tags that the values obey, whatever classes are shared
-  found : (tag : ℕ → Option OpId) × ObeyTags d t class tag values
-  found = tags_exist d t made has s heads leaf y systems values go_with
+  tags : RightTags d t s heads values
+  tags = right_tags d t made has s heads leaf told y systems values go_with obey_heads
 
-  -- the tag of a class: the operator of which its value is a sum, or the identity, where the class is shared and this uses it
-  record Tag (k : ℕ) (o : Option OpId) : Type 0 where
-    right : (f : OpId) → o ≡ Some f → IsShared d t class k × Uses d t class f k
-    obeyed : (f : OpId) → IsShared d t class k → Uses d t class f k → (o ≡ Some f) ↔ IsSumOrIdentityOf d f (values k)
-
-  no_tag : (k : ℕ) → ((f : OpId) → IsShared d t class k → Uses d t class f k → IsSumOrIdentityOf d f (values k) → ⊥) → Tag k None
-  no_tag k n = record { right = λ f e. cc; obeyed = λ f shared u. (λ e. cc, λ h. absurd (n f shared u h)) }
-
-  tag_at : (k : ℕ) → (o : Option OpId) × Tag k o
-  tag_at k = go (found.0 k) refl
-    where
-      go : (o : Option OpId) → found.0 k ≡ o → (o : Option OpId) × Tag k o
-      go None e = (None, no_tag k (λ f shared u h. let m : None ≡ Some f = sym e ∙ (found.1 k f shared u).1 h in cc))
-      go (Some g) e = elim (user_told d t class y systems g k) [
-        | inl u ↦ elim (shared_told d t class told g k u) [
-          | inl shared ↦ (
-            Some g,
-            record {
-              right = λ f m. (shared, subst (λ o. Uses d t class o k) (Some-injective m) u);
-              obeyed = λ f also w. (
-                λ m. (found.1 k f also w).0 (e ∙ m),
-                λ h. sym e ∙ (found.1 k f also w).1 h,
-              );
-            },
-          )
-          | inr n ↦ (None, no_tag k (λ f shared w h. n shared))
-        ]
-        | inr n ↦ (None, no_tag k (λ f shared w h. n (subst (λ o. Uses d t class o k) (Some-injective (sym ((found.1 k f shared w).1 h) ∙ e)) w)))
-      ]
-
-  tag : ℕ → Option OpId
-  tag k = (tag_at k).0
-
-  obey : ObeyTags d t class tag values
-  unfolding tag
-  obey k f shared u = (tag_at k).1.obeyed f shared u
+  abbrev tag : ℕ → Option OpId
+  tag = tags.tag
 
   -- what is asked for an operator, and what is chosen for it
-  asked_for : (f : OpId) → IsSumOperator d t f → Asked d t made has s leaf told values go_with tag obey f (y.columns f)
-  asked_for f sum = asked d t made has s leaf told values go_with tag obey y systems f sum (y.columns f) (systems.is_system f sum).exact
+  asked_for : (f : OpId) → IsSumOperator d t f → Asked d t made has s leaf told values go_with tag tags.obey f (y.columns f)
+  asked_for f sum = asked d t made has s leaf told values go_with tag tags.obey y systems f sum (y.columns f) (systems.is_system f sum).exact
 
   chosen_for : (f : OpId) (sum : IsSumOperator d t f) → IsChosen d f values (y.columns f) (y.system f) (y.basis f) (asked_for f sum).constants (asked_for f sum).may_be_zero
   chosen_for f sum =
-      choose d t made has s heads leaf told values go_with obey_heads tag obey f sum (y.columns f) (y.system f) (systems.is_system f sum) (y.basis f) (systems.exact f sum)
+      choose d t made has s heads leaf told values go_with obey_heads tag tags.obey tags.follow f sum (y.columns f) (y.system f) (systems.is_system f sum) (y.basis f) (systems.exact f sum)
       (asked_for f sum).constants (asked_for f sum).may_be_zero (asked_for f sum).are_asked
 
   -- where the operator is neutral, solutions without a constant are taken with or without pieces
@@ -131,13 +95,13 @@ module _ (choose : ValuesChoose) (aliases : NoAliases) (law : MadeUpByTaken) (d 
 
   accepted : (f : OpId) → IsSumOperator d t f → (o : Decided (IsSumOperator d t f)) → sum_told d t f ≡ o → IsAcceptable d t class y choice f
   accepted f sum (inl h) e =
-      acceptable d t made has s leaf told values go_with obey_heads y systems choice obey f h (asked_for f h).constants (asked_for f h).may_be_zero (asked_for f h).are_asked (chosen_for f h) (also f h) (marks_for f h) (marks_are f h) (ap (number_in f) e) (also_neutral f h) (also_bare f h) law aliases
+      acceptable d t made has s leaf told values go_with obey_heads y systems choice tags.obey tags.follow f h (asked_for f h).constants (asked_for f h).may_be_zero (asked_for f h).are_asked (chosen_for f h) (also f h) (marks_for f h) (marks_are f h) (ap (number_in f) e) (also_neutral f h) (also_bare f h) (also_passes f h) law aliases
   accepted f sum (inr n) e = absurd (n sum)
 
   made_up : (f : OpId) → IsSumOperator d t f → (o : Decided (IsSumOperator d t f)) → sum_told d t f ≡ o → AreMadeOf d t class y choice values f (pieces_in f (sum_told d t f))
   made_up f sum (inl h) e =
       subst (AreMadeOf d t class y choice values f) (sym (ap (pieces_in f) e))
-      (made_of d t made has s leaf told values go_with obey_heads y systems choice obey f h (asked_for f h).constants (asked_for f h).may_be_zero (asked_for f h).are_asked (chosen_for f h) (also f h) (marks_for f h) (marks_are f h) (ap (number_in f) e) (also_neutral f h) (also_bare f h) law)
+      (made_of d t made has s leaf told values go_with obey_heads y systems choice tags.obey tags.follow f h (asked_for f h).constants (asked_for f h).may_be_zero (asked_for f h).are_asked (chosen_for f h) (also f h) (marks_for f h) (marks_are f h) (ap (number_in f) e) (also_neutral f h) (also_bare f h) (also_passes f h) law)
   made_up f sum (inr n) e = absurd (n sum)
 
   -- every solution without a constant is taken
@@ -153,14 +117,11 @@ module _ (choose : ValuesChoose) (aliases : NoAliases) (law : MadeUpByTaken) (d 
       ∙ bit_marked (marks_for f h) i (omega (arith, l, long)) (also_marked (also f h) (marks_for f h) (chosen_for f h).pieces (y.basis f) are i l (also_passes f h n v none))
   filled f sum n (inr m) e i l bare = absurd (m sum)
 
-  right_tag : (k : ℕ) (f : OpId) → tag k ≡ Some f → IsShared d t class k × Uses d t class f k
-  unfolding tag
-  right_tag k f e = (tag_at k).1.right f e
-
-  pub obeyed_choice : (c : Choice) × IsPossible d t class y c × IsFull d t class y c × AreObeying d t class y c values
+  pub obeyed_choice : (c : Choice) × IsPossible d t class y c × IsFull d t class y c × AreObeying d t class y c values × TagsFollow d t class c.tag values heads
   obeyed_choice = (
     choice,
-    record { tags = λ k f e. right_tag k f e; acceptable = λ f sum. accepted f sum (sum_told d t f) refl },
+    record { tags = tags.right; acceptable = λ f sum. accepted f sum (sum_told d t f) refl },
     λ f sum n. filled f sum n (sum_told d t f) refl,
-    record { tags = obey; pieces = λ f. pieces_in f (sum_told d t f); made_of = λ f sum. made_up f sum (sum_told d t f) refl },
+    record { tags = tags.obey; pieces = λ f. pieces_in f (sum_told d t f); made_of = λ f sum. made_up f sum (sum_told d t f) refl },
+    tags.follow,
   )

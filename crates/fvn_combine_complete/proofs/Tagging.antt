@@ -1,7 +1,8 @@
 -- Tags that values obey, and the values of unifiers.
-use Rattle.std.proofs.Common.{◌≡◌, ℕ, ◌<◌, true, false, List, length, refl, sym, ap, ◌∙◌, subst, inl, inr, arith, Contains, Option, Some, None}
+use Rattle.std.proofs.Common.{◌≡◌, ◌≢◌, ◌⊎◌, ℕ, ◌<◌, true, false, List, length, get_or, refl, sym, ap, ◌∙◌, subst, inl, inr, arith, Contains, Option, Some, None}
 use Rattle.std.specs.Prelude.{Bool, ◌↔◌}
-use Rattle.std.proofs.lemmas.Bool.{true≢false}
+use Rattle.std.proofs.lemmas.Bool.{cases_eq, true≢false}
+use Rattle.fvn_base.specs.Decided.{Decided}
 use Rattle.fvn_base.proofs.Decided.{some_or_none}
 use Rattle.fvn_base.proofs.Options.{Some-injective}
 use Rattle.fvn_terms.specs.declared.plain.OpId.{OpId}
@@ -15,22 +16,27 @@ use Rattle.fvn_forms.specs.FitsKinds.{FitsKinds}
 use Rattle.fvn_forms.proofs.ToCanon.{b_equal_iff_canon}
 use Rattle.fvn_flat.specs.Forms.{head_of}
 use Rattle.fvn_flat.specs.Problems.{IsProblem}
-use Rattle.fvn_flat.specs.SolvedLists.{IsKindUnifier}
+use Rattle.fvn_flat.specs.SolvedLists.{IsKindUnifier, component}
+use Rattle.fvn_flat.specs.Partitions.{HasNoIdentity}
 use Rattle.fvn_combine_nodes.specs.Table.{NodeTable, IsWellMade, IsTableOf, term_at}
 use Rattle.fvn_combine_nodes.specs.States.{Admits, IsClosed, class_of}
 use Rattle.fvn_combine_nodes.specs.Unifiers.{value_at, kernel}
 use Rattle.fvn_combine_nodes.specs.declared.state.State.{State}
 use Rattle.fvn_terms.proofs.Equal.{HasKind-apply}
 use Rattle.fvn_combine_nodes.specs.Laws.{UnifiersPartition}
+use Rattle.fvn_combine_nodes.proofs.Heading.{identity_of}
 use Rattle.fvn_combine_nodes.proofs.Admitting.{admits_apart, named_within}
 use Rattle.fvn_combine_nodes.proofs.Subterms.{node_kinded}
 use Rattle.fvn_combine_systems.specs.Laws.{UnifiersHaveValues}
-use Rattle.fvn_combine_leaves.specs.Leaves.{Uses, IsShared, IsLeaf}
+use Rattle.fvn_combine_leaves.specs.Leaves.{Uses, IsShared, IsNotedSum, IsLeaf}
+use Rattle.fvn_combine_choices.specs.Binding.{IsBound, tagged, IsConstant}
 use Rattle.fvn_combine_choices.specs.Choosing.{Systems, AreSystems}
 use Rattle.fvn_combine_choices.specs.Tables.{HasSums}
-use Rattle.fvn_combine_complete.specs.Obeying.{GoWith, IsSumOf, IsSumOrIdentityOf, ObeyTags}
-use Rattle.fvn_combine_complete.proofs.Asked.{IsUserWith, user_with_told}
-use Rattle.fvn_combine_complete.proofs.Identities.{unit_at, one_identity}
+use Rattle.fvn_combine_complete.specs.Obeying.{IsTold, GoWith, IsSumOf, IsSumOrIdentityOf, IsLabel, ObeyHeads, IsTakenAsSum, ObeysTag, ObeyTags, TagsFollow}
+use Rattle.fvn_combine_complete.specs.Laws.{TagsExist}
+use Rattle.fvn_combine_complete.proofs.Asked.{tag_told, bare_told, user_told, shared_told, IsUserWith, user_with_told}
+use Rattle.fvn_combine_complete.proofs.Identities.{operator_told, unit_at, own_name, same_class, one_identity}
+use Rattle.fvn_combine_complete.proofs.Values.{may_be}
 
 -- a form has one head alone, and no sum is a constant
 sum_is_constant : (f e : OpId) (v : FlatTerm) → IsSumOf f v → v ≡ fconstant e → ⊥
@@ -46,7 +52,14 @@ one_head f g v a b = let e : Some f ≡ Some g = ap head_of (sym a.1 ∙ b.1) in
 one_constant : (e o : OpId) (v : FlatTerm) → v ≡ fconstant e → v ≡ fconstant o → e ≡ o
 one_constant e o v a b = let p : Some e ≡ Some o = ap head_of (sym a ∙ b) in Some-injective p
 
-module _ (d : Declarations) (t : NodeTable) (made : IsWellMade t) (has : HasSums d t) (s : State) (heads : List (Option OpId)) (leaf : IsLeaf d t heads s) (y : Systems) (systems : AreSystems d t (class_of s) y) (values : ℕ → FlatTerm) (go_with : GoWith d t s values) where
+-- tags of shared classes and operators that use them, which values obey, and which follow what is noted
+pub record RightTags (d : Declarations) (t : NodeTable) (s : State) (heads : List (Option OpId)) (values : ℕ → FlatTerm) : Type 0 where
+  pub tag : ℕ → Option OpId
+  pub right : (k : ℕ) (f : OpId) → tag k ≡ Some f → IsShared d t (class_of s) k × Uses d t (class_of s) f k
+  pub obey : ObeyTags d t (class_of s) tag values
+  pub follow : TagsFollow d t (class_of s) tag values heads
+
+module _ (d : Declarations) (t : NodeTable) (made : IsWellMade t) (has : HasSums d t) (s : State) (heads : List (Option OpId)) (leaf : IsLeaf d t heads s) (told : IsTold d t (class_of s)) (y : Systems) (systems : AreSystems d t (class_of s) y) (values : ℕ → FlatTerm) (go_with : GoWith d t s values) (obey_heads : ObeyHeads d t s heads values) where
   abbrev class : ℕ → ℕ
   class = class_of s
 
@@ -114,8 +127,191 @@ module _ (d : Declarations) (t : NodeTable) (made : IsWellMade t) (has : HasSums
   found : (k : ℕ) → (o : Option OpId) × IsTag k o
   found k = tag_of k (values k) refl
 
-  pub tags_exist : (tag : ℕ → Option OpId) × ObeyTags d t class tag values
-  tags_exist = (λ k. (found k).0, λ k. (found k).1)
+  -- the same, of a shared class and an operator that uses it alone
+  record Tag (k : ℕ) (o : Option OpId) : Type 0 where
+    right : (f : OpId) → o ≡ Some f → IsShared d t class k × Uses d t class f k
+    is_tag : IsTag k o
+
+  tag_at : (k : ℕ) → (o : Option OpId) × Tag k o
+  tag_at k = go (found k).0 refl
+    where
+      none_at : ((f : OpId) → IsShared d t class k → Uses d t class f k → IsSumOrIdentityOf d f (values k) → ⊥) → (o : Option OpId) × Tag k o
+      none_at n = (None, record { right = λ f e. cc; is_tag = λ f shared u. (λ e. cc, λ h. absurd (n f shared u h)) })
+
+      go : (o : Option OpId) → (found k).0 ≡ o → (o : Option OpId) × Tag k o
+      go None e = none_at (λ f shared u h. let m : None ≡ Some f = sym e ∙ ((found k).1 f shared u).1 h in cc)
+      go (Some g) e = elim (user_told d t class y systems g k) [
+        | inl u ↦ elim (shared_told d t class told g k u) [
+          | inl shared ↦ (
+            Some g,
+            record {
+              right = λ f m. (shared, subst (λ o. Uses d t class o k) (Some-injective m) u);
+              is_tag = λ f also w. (
+                λ m. ((found k).1 f also w).0 (e ∙ m),
+                λ h. sym e ∙ ((found k).1 f also w).1 h,
+              );
+            },
+          )
+          | inr n ↦ none_at (λ f shared w h. n shared)
+        ]
+        | inr n ↦ none_at (λ f shared w h. n (subst (λ o. Uses d t class o k) (Some-injective (sym (((found k).1 f shared w).1 h) ∙ e)) w))
+      ]
+
+  -- the shared class k is used by f, which is noted of it
+  record IsNoted (k : ℕ) (f : OpId) : Type 0 where
+    shared : IsShared d t class k
+    used : Uses d t class f k
+    noted : IsNotedSum d t heads f k
+
+  abbrev NotedOrNone : ℕ → Type 0
+  NotedOrNone k = ((f : OpId) × IsNoted k f) ⊎ ((f : OpId) → IsNoted k f → ⊥)
+
+  noted_or_none : (k : ℕ) → NotedOrNone k
+  noted_or_none k = go (get_or heads k None) refl
+    where
+      go : (o : Option OpId) → get_or heads k None ≡ o → NotedOrNone k
+      go None e = inr (λ f h. let m : None ≡ Some f = sym e ∙ h.noted.noted in cc)
+      go (Some g) e = elim (user_told d t class y systems g k) [
+        | inr n ↦ inr (λ f h. n (subst (λ o. Uses d t class o k) (Some-injective (sym h.noted.noted ∙ e)) h.used))
+        | inl u ↦ elim (shared_told d t class told g k u) [
+          | inr n ↦ inr (λ f h. n h.shared)
+          | inl shared ↦ elim (bare_told (axioms d g)) [
+            | inl bare ↦ inr (λ f h. h.noted.some (subst (λ o. HasNoIdentity (axioms d o)) (Some-injective (sym e ∙ h.noted.noted)) bare))
+            | inr unit ↦ inl (g, record { shared = shared; used = u; noted = record { noted = e; some = λ bare. identity_of (axioms d g) unit.0 bare unit.1 } })
+          ]
+        ]
+      ]
+
+  -- what is noted of a shared class is its tag; where nothing is, it is the one by its value
+  abbrev tag_in : (k : ℕ) → NotedOrNone k → Option OpId
+  tag_in k (inl n) = Some n.0
+  tag_in k (inr none) = (tag_at k).0
+
+  tag : ℕ → Option OpId
+  tag k = tag_in k (noted_or_none k)
+
+  tag_noted : (k : ℕ) (f : OpId) → IsNoted k f → tag k ≡ Some f
+  unfolding tag
+  tag_noted k f h = go (noted_or_none k)
+    where
+      go : (o : NotedOrNone k) → tag_in k o ≡ Some f
+      go (inl n) = sym n.1.noted.noted ∙ h.noted.noted
+      go (inr none) = absurd (none f h)
+
+  tag_else : (k : ℕ) → ((f : OpId) → IsNoted k f → ⊥) → tag k ≡ (tag_at k).0
+  unfolding tag
+  tag_else k none = go (noted_or_none k)
+    where
+      go : (o : NotedOrNone k) → tag_in k o ≡ (tag_at k).0
+      go (inl n) = absurd (none n.0 n.1)
+      go (inr also) = refl
+
+  tag_right : (k : ℕ) (f : OpId) → tag k ≡ Some f → IsShared d t class k × Uses d t class f k
+  tag_right k f e = elim (noted_or_none k) [
+    | inl n ↦ (n.1.shared, subst (λ o. Uses d t class o k) (Some-injective (sym (tag_noted k n.0 n.1) ∙ e)) n.1.used)
+    | inr none ↦ (tag_at k).1.right f (sym (tag_else k none) ∙ e)
+  ]
+
+  -- a class of which an operator is noted is taken as a sum of it, where its value is none
+  module _ (k : ℕ) (f : OpId) (h : IsNoted k f) where
+    within : k < length t.nodes
+    within = (own_name d t made s leaf f k h.used.column).within
+
+    no_other : (g : OpId) → g ≢ f → Uses d t class g k → IsSumOrIdentityOf d g (values k) → ⊥
+    no_other g n u is = elim (obey_heads k f within h.noted) [
+      | inl sum ↦ elim is [
+        | inl own ↦ n (one_head g f (values k) own sum)
+        | inr unit ↦ sum_is_constant f unit.0 (values k) sum unit.2
+      ]
+      | inr label ↦ label.other g n u is
+    ]
+
+    taken : IsLabel d t s heads f k (values k) → (IsSumOrIdentityOf d f (values k) → ⊥) → IsTakenAsSum d t class tag values f k
+    taken label no_sum = record {
+      neutral = label.neutral;
+      one = λ g u is. elim (operator_told g f) [
+        | inl same ↦ no_sum (subst (λ o. IsSumOrIdentityOf d o (values k)) same is)
+        | inr n ↦ label.other g n u is
+      ];
+      columns = label.room.columns;
+      system = label.room.system;
+      is = label.room.is;
+      solution = label.room.solution;
+      minimal = label.room.minimal;
+      has = label.room.has;
+      free = λ l c. elim (cases_eq (component label.room.columns label.room.solution l) 0) [
+        | inl z ↦ z
+        | inr n ↦ absurd (
+            let room = label.room.free l (omega (arith, n)) (may_be d t class told tag f l c) in
+            no_noted l c room.0 room.1)
+      ];
+      differ = λ l c shared touched same.
+          let n : l ≢ k = λ e. c.not_bound (subst (IsBound d t class tag f) (sym e) (tagged h.used h.shared (tag_noted k f h))) in
+          elim (label.room.told l n shared (may_be d t class told tag f l c) (no_noted l c shared) touched) [
+            | inl two ↦ h.shared.soft two.first two.heads_first
+            | inr closed ↦ elim (same_class d t s values go_with k l (own_name d t made s leaf f k h.used.column) (own_name d t made s leaf f l c.used.column).within) [
+              | inl o ↦ closed o
+              | inr r ↦ elim r [
+                | inl q ↦ n (sym (q ∙ (own_name d t made s leaf f l c.used.column).own))
+                | inr m ↦ m (sym same ∙ sym (ap values (own_name d t made s leaf f l c.used.column).own))
+              ]
+            ]
+          ];
+    }
+      where
+        -- a shared class of which f is noted is no constant
+        no_noted : (l : ℕ) → IsConstant d t class tag f l → IsShared d t class l → IsNotedSum d t heads f l → ⊥
+        no_noted l c shared noted = c.not_bound (tagged c.used shared (tag_noted l f (record { shared = shared; used = c.used; noted = noted })))
+
+    noted_obeys : ObeysTag d t class tag values k f
+    noted_obeys = record {
+      found = λ is. tag_noted k f h;
+      meant = λ e. elim (sum_told f h.shared h.used) [
+        | inl is ↦ inl is
+        | inr n ↦ elim (obey_heads k f within h.noted) [
+          | inl sum ↦ inl (inl sum)
+          | inr label ↦ inr (taken label n)
+        ]
+      ];
+    }
+      where
+        sum_told : (f : OpId) → IsShared d t class k → Uses d t class f k → Decided (IsSumOrIdentityOf d f (values k))
+        sum_told f shared used = elim (tag_told (tag_at k).0 f) [
+          | inl e ↦ inl (((tag_at k).1.is_tag f shared used).0 e)
+          | inr n ↦ inr (λ is. n (((tag_at k).1.is_tag f shared used).1 is))
+        ]
+
+  obey : ObeyTags d t class tag values
+  obey k f shared used = elim (noted_or_none k) [
+    | inr none ↦
+        let by = (tag_at k).1.is_tag f shared used in
+        let e = tag_else k none in
+        record { found = λ is. e ∙ by.1 is; meant = λ m. inl (by.0 (sym e ∙ m)) }
+    | inl n ↦ elim (operator_told f n.0) [
+      | inl same ↦ noted_obeys k f (record { shared = shared; used = used; noted = subst (λ o. IsNotedSum d t heads o k) (sym same) n.1.noted })
+      | inr other ↦ record {
+        found = λ is. absurd (no_other k n.0 n.1 f other used is);
+        meant = λ m. absurd (other (Some-injective (sym m ∙ tag_noted k n.0 n.1)));
+      }
+    ]
+  ]
+
+  follow : TagsFollow d t class tag values heads
+  follow k f shared used = record {
+    noted = λ n. tag_noted k f (record { shared = shared; used = used; noted = n });
+    meant = λ m. elim (noted_or_none k) [
+      | inl n ↦ inr (subst (λ o. IsNotedSum d t heads o k) (Some-injective (sym (tag_noted k n.0 n.1) ∙ m)) n.1.noted)
+      | inr none ↦ inl (((tag_at k).1.is_tag f shared used).0 (sym (tag_else k none) ∙ m))
+    ];
+  }
+
+  pub right_tags : RightTags d t s heads values
+  right_tags = record { tag = tag; right = tag_right; obey = obey; follow = follow }
+
+pub tags_exist : TagsExist
+tags_exist d t made has s heads leaf told y systems values go_with obey_heads =
+    let r = right_tags d t made has s heads leaf told y systems values go_with obey_heads in
+    (r.tag, r.obey, r.follow)
 
 -- a unifier's values go with each state that admits its partition
 pub unifiers_go_with : UnifiersHaveValues → UnifiersPartition → (d : Declarations) → FitsKinds d → (problem : Problem) → IsProblem d problem → (t : NodeTable) → IsWellMade t → IsTableOf d problem t → (u : Substitution) → IsKindUnifier d problem u → (s : State) → IsClosed d t s →

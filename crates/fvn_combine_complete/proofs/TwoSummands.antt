@@ -1,5 +1,5 @@
 -- Classes whose values have two summands or more.
-use Rattle.std.proofs.Common.{◌≡◌, ℕ, ◌≤◌, true, List, [], ◌∷◌, ◌++◌, length, sym, ap, ◌∙◌, subst, inl, inr, arith, Option}
+use Rattle.std.proofs.Common.{◌≡◌, ◌⊎◌, ℕ, ◌≤◌, true, List, [], ◌∷◌, ◌++◌, length, sym, ap, ◌∙◌, subst, inl, inr, arith, Option}
 use Rattle.std.specs.Prelude.{cond}
 use Rattle.std.proofs.lemmas.List.{length-append}
 use Rattle.fvn_terms.specs.declared.plain.OpId.{OpId}
@@ -18,7 +18,7 @@ use Rattle.fvn_combine_nodes.specs.declared.state.State.{State}
 use Rattle.fvn_combine_leaves.specs.Leaves.{IsLeaf, IsSolid, IsShared}
 use Rattle.fvn_combine_choices.specs.Binding.{IsBound, solid, alone, tagged}
 use Rattle.fvn_combine_choices.specs.Tables.{HasSums}
-use Rattle.fvn_combine_complete.specs.Obeying.{IsTold, GoWith, ObeyTags}
+use Rattle.fvn_combine_complete.specs.Obeying.{IsTold, GoWith, IsTakenAsSum, ObeyTags}
 use Rattle.fvn_combine_nodes.proofs.Heading.{some_part}
 
 -- a form that is a sum of f has two summands
@@ -33,13 +33,16 @@ module _ (d : Declarations) (t : NodeTable) (made : IsWellMade t) (has : HasSums
   abbrev class : ℕ → ℕ
   class = class_of s
 
-  -- a shared class that is bound to f has two summands, where it has one
-  pub shared_two : (f : OpId) (k : ℕ) → IsShared d t class k → IsBound d t class tag f k → 1 ≤ length (parts d f (values k)) → 2 ≤ length (parts d f (values k))
+  -- a shared class that is bound to f has two summands, where it has one, or is taken as a sum
+  pub shared_two : (f : OpId) (k : ℕ) → IsShared d t class k → IsBound d t class tag f k → 1 ≤ length (parts d f (values k)) → (2 ≤ length (parts d f (values k))) ⊎ IsTakenAsSum d t class tag values f k
   shared_two f k shared (solid assoc p) some = absurd (shared.soft f p)
   shared_two f k shared (alone u soft only) some = absurd (shared.different (only shared.first shared.uses_first ∙ sym (only shared.second shared.uses_second)))
-  shared_two f k shared (tagged u again e) some = elim ((obey k f shared u).0 e) [
-    | inl sum ↦ two_summands d f sum.0 (values k) sum.1 (go_with.are.settled k)
-    | inr unit ↦ absurd (let none = ap length (ap (parts d f) unit.2 ∙ parts_identity d f unit.0 unit.1) in omega (arith, none, some))
+  shared_two f k shared (tagged u again e) some = elim ((obey k f shared u).meant e) [
+    | inr one ↦ inr one
+    | inl is ↦ elim is [
+      | inl sum ↦ inl (two_summands d f sum.0 (values k) sum.1 (go_with.are.settled k))
+      | inr unit ↦ absurd (let none = ap length (ap (parts d f) unit.2 ∙ parts_identity d f unit.0 unit.1) in omega (arith, none, some))
+    ]
   ]
 
   pub solid_two : (f : OpId) (k : ℕ) → IsAssociative (axioms d f) → IsSolid d t class f k → 2 ≤ length (parts d f (values k))

@@ -30,13 +30,26 @@ use Rattle.fvn_combine_systems.proofs.Weighing.{balance}
 use Rattle.fvn_combine_leaves.specs.Leaves.{IsSolid, Uses, IsShared, HasTwin, IsSingle, MayBeConstant, HaveTwoHeads, IsLive, IsNotedSum, IsLeaf}
 use Rattle.fvn_combine_choices.specs.Binding.{IsBound, solid, alone, tagged, IsConstant, IsRequired}
 use Rattle.fvn_combine_choices.specs.Tables.{HasSums}
-use Rattle.fvn_combine_complete.specs.Obeying.{IsTold, GoWith, IsSumOf, IsSumOrIdentityOf, ObeyHeads, ObeyTags}
+use Rattle.fvn_combine_complete.specs.Obeying.{IsTold, GoWith, IsSumOf, IsSumOrIdentityOf, ObeyHeads, IsTakenAsSum, ObeyTags, TagsFollow}
 use Rattle.fvn_combine_complete.proofs.Heads.{build_constant, single_part}
 use Rattle.fvn_combine_complete.proofs.Identities.{UnitAt, unit_at, IsName, own_name, same_class, no_twin_identity}
 use Rattle.fvn_combine_complete.proofs.TwoSummands.{two_summands}
 
 equal_parts : (m n : ℕ) → pos m -ℤ pos n ≡ pos 0 → m ≡ n
 equal_parts m n e = let b = balance m n in let a : above (pos m -ℤ pos n) ≡ 0 = ap above e in let c : below (pos m -ℤ pos n) ≡ 0 = ap below e in omega (arith, a, b, c)
+
+-- why a constant is none that is bound
+pub constant_why : (d : Declarations) (t : NodeTable) (class : ℕ → ℕ) → IsTold d t class → (tag : ℕ → Option OpId) (f : OpId) (k : ℕ) → IsConstant d t class tag f k → ((g : OpId) × (g ≢ f) × IsSolid d t class g k) ⊎ IsShared d t class k
+constant_why d t class told tag f k h = elim (told.heads k) [
+  | inl p ↦ inl (p.0, λ e. h.not_bound (solid h.used.associative (subst (λ o. IsSolid d t class o k) e p.1)), p.1)
+  | inr soft ↦ elim (told.users f k) [
+    | inl u ↦ inr (record { soft = soft; first = u.0; second = f; different = u.1; uses_first = u.2; uses_second = h.used })
+    | inr only ↦ absurd (h.not_bound (alone h.used soft only))
+  ]
+]
+
+pub may_be : (d : Declarations) (t : NodeTable) (class : ℕ → ℕ) → IsTold d t class → (tag : ℕ → Option OpId) (f : OpId) (k : ℕ) → IsConstant d t class tag f k → MayBeConstant d t class f k
+may_be d t class told tag f k h = record { used = h.used; why = constant_why d t class told tag f k h }
 
 module _ (d : Declarations) (t : NodeTable) (made : IsWellMade t) (has : HasSums d t) (s : State) {heads : List (Option OpId)} (leaf : IsLeaf d t heads s) (told : IsTold d t (class_of s)) (values : ℕ → FlatTerm) (go_with : GoWith d t s values) (tag : ℕ → Option OpId) (obey : ObeyTags d t (class_of s) tag values) where
   abbrev class : ℕ → ℕ
@@ -54,31 +67,18 @@ module _ (d : Declarations) (t : NodeTable) (made : IsWellMade t) (has : HasSums
       ∙ build_head d f h.no_identity (map (λ k. values (class k)) h.arguments) (settled_values h.arguments)
       (λ assoc. length-map h.arguments (λ k. values (class k)) ∙ (has.pairs h.member f h.arguments h.over assoc).0)
 
-  -- why a constant is none that is bound
-  pub constant_why : (f : OpId) (k : ℕ) → IsConstant d t class tag f k → ((g : OpId) × (g ≢ f) × IsSolid d t class g k) ⊎ IsShared d t class k
-  constant_why f k h = elim (told.heads k) [
-    | inl p ↦ inl (p.0, λ e. h.not_bound (solid h.used.associative (subst (λ o. IsSolid d t class o k) e p.1)), p.1)
-    | inr soft ↦ elim (told.users f k) [
-      | inl u ↦ inr (record { soft = soft; first = u.0; second = f; different = u.1; uses_first = u.2; uses_second = h.used })
-      | inr only ↦ absurd (h.not_bound (alone h.used soft only))
-    ]
-  ]
-
-  pub may_be : (f : OpId) (k : ℕ) → IsConstant d t class tag f k → MayBeConstant d t class f k
-  may_be f k h = record { used = h.used; why = constant_why f k h }
-
   -- its value is no sum of f, and not f's identity
   constant_other : (f : OpId) (k : ℕ) → IsConstant d t class tag f k → IsShared d t class k → IsSumOrIdentityOf d f (values k) → ⊥
-  constant_other f k h shared is = h.not_bound (tagged h.used shared ((obey k f shared h.used).1 is))
+  constant_other f k h shared is = h.not_bound (tagged h.used shared ((obey k f shared h.used).found is))
 
   constant_no_sum : (f : OpId) (k : ℕ) → IsConstant d t class tag f k → IsSumOf f (values k) → ⊥
-  constant_no_sum f k h sum = elim (constant_why f k h) [
+  constant_no_sum f k h sum = elim (constant_why d t class told tag f k h) [
     | inl p ↦ p.1 (let e : Some p.0 ≡ Some f = sym (head_of_solid p.0 k p.2) ∙ ap head_of sum.1 in cc)
     | inr shared ↦ constant_other f k h shared (inl sum)
   ]
 
   constant_no_identity : (f : OpId) (k : ℕ) → IsConstant d t class tag f k → (e : OpId) → identity (axioms d f) ≡ Some e → values k ≡ fconstant e → ⊥
-  constant_no_identity f k h e i is = elim (constant_why f k h) [
+  constant_no_identity f k h e i is = elim (constant_why d t class told tag f k h) [
     | inr shared ↦ constant_other f k h shared (inr (e, i, is))
     | inl q ↦
         let same_head : Some q.0 ≡ Some e = sym (head_of_solid q.0 k q.2) ∙ ap head_of is in
@@ -117,8 +117,14 @@ module _ (d : Declarations) (t : NodeTable) (made : IsWellMade t) (has : HasSums
   name_of f k h = own_name d t made s leaf f k h.used.column
 
   -- a constant is not noted as a sum
-  pub constant_not_noted : ObeyHeads d t heads values → (f : OpId) (k : ℕ) → IsConstant d t class tag f k → IsNotedSum d t heads f k → ⊥
-  constant_not_noted obey_heads f k h noted = constant_no_sum f k h (obey_heads k f (name_of f k h).within noted)
+  pub constant_not_noted : ObeyHeads d t s heads values → TagsFollow d t class tag values heads → (f : OpId) (k : ℕ) → IsConstant d t class tag f k → IsNotedSum d t heads f k → ⊥
+  constant_not_noted obey_heads follow f k h noted = elim (constant_why d t class told tag f k h) [
+    | inr shared ↦ h.not_bound (tagged h.used shared ((follow k f shared h.used).noted noted))
+    | inl p ↦ elim (obey_heads k f (name_of f k h).within noted) [
+      | inl sum ↦ constant_no_sum f k h sum
+      | inr label ↦ label.room.shared.soft p.0 p.2
+    ]
+  ]
 
   -- two constants that are touched together differ
   pub constants_differ : (f : OpId) (k l : ℕ) → IsConstant d t class tag f k → IsConstant d t class tag f l → k ≢ l → HaveTwoHeads d t class k l ⊎ (IsOpen s k l → ⊥) → values k ≢ values l
@@ -216,10 +222,18 @@ module _ (d : Declarations) (t : NodeTable) (made : IsWellMade t) (has : HasSums
       with_twin : HasTwin d t class f k → IsBound d t class tag f k → 1 ≤ length (parts d f (values k))
       with_twin twin (solid assoc p) = some_part d f p.no_identity (values k) (go_with.are.settled k)
       with_twin twin (alone u soft only) = absurd (twin.other (only twin.twin twin.uses))
-      with_twin twin (tagged u shared e) = elim ((obey k f shared u).0 e) [
-        | inl sum ↦ (let two = two_summands d f sum.0 (values k) sum.1 (go_with.are.settled k) in omega (arith, two))
-        | inr unit ↦ absurd (no_twin_identity d t made has s leaf values go_with f k shared u twin unit.0 unit.1 unit.2)
+      with_twin twin (tagged u shared e) = elim ((obey k f shared u).meant e) [
+        | inr one ↦ single one
+        | inl is ↦ elim is [
+          | inl sum ↦ (let two = two_summands d f sum.0 (values k) sum.1 (go_with.are.settled k) in omega (arith, two))
+          | inr unit ↦ absurd (no_twin_identity d t made has s leaf values go_with f k shared u twin unit.0 unit.1 unit.2)
+        ]
       ]
+        where
+          single : IsTakenAsSum d t class tag values f k → 1 ≤ length (parts d f (values k))
+          single h =
+              let n = ap length (single_part d f (values k) (λ sum. h.one f u (inl sum)) (λ o i is. h.one f u (inr (o, i, is)))) in
+              omega (arith, n)
 
       long : HasNoIdentity (axioms d f) ⊎ HasTwin d t class f k → IsBound d t class tag f k → 1 ≤ length (parts d f (values k))
       long (inl bare) b = some_part d f bare (values k) (go_with.are.settled k)

@@ -125,7 +125,7 @@ ValuesObeyChoices =
 abbrev pub ObeyedChoicesFall : Type 0
 ObeyedChoicesFall =
     (d : Declarations) (t : NodeTable) → IsWellMade t → HasSums d t → (s : State) (heads : List (Option OpId)) → IsLeaf d t heads s → IsTold d t (class_of s)
-    → (y : Systems) (values : ℕ → FlatTerm) → GoWith d t s values
+    → (y : Systems) → AreSystems d t (class_of s) y → (values : ℕ → FlatTerm) → GoWith d t s values
     → (c : Choice) → AreObeying d t (class_of s) y c values → (rank : ℕ → ℕ) × Falls d t (class_of s) y c rank
 
 -- where a unifier's values obey a choice, what the bindings of its plan unfold to covers the unifier

@@ -9,3 +9,4 @@ pub mod Laws
 -- Passed on from below, so that crates above need not stand on more than they must.
 pub use Rattle.fvn_combine_choices.specs.Choosing as CombineChoicesChoosing
 pub use Rattle.fvn_combine_choices.specs.Tables as CombineChoicesTables
+pub use Rattle.fvn_combine_choices.specs.Laws as CombineChoicesLaws

@@ -56,7 +56,7 @@ pub fn tables_have_sums()
     ensures { TablesHaveSums }
 {}
 
-/// Values that go with a leaf obey some tags.
+/// Values that go with a leaf, and obey its heads, obey some tags that follow these.
 pub fn tags_exist()
     ensures { TagsExist }
 {}
@@ -69,7 +69,7 @@ pub fn unifiers_go_with()
     unifiers_partition();
 }
 
-/// Values that go with a leaf obey a possible choice that is full.
+/// Values that go with a leaf obey a possible choice that is full, and whose tags follow its heads.
 pub fn values_obey_choices()
     ensures { ValuesObeyChoices }
 {

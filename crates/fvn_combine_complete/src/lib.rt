@@ -3,6 +3,7 @@
 
 mod laws;
 
+pub use fvn_combine_choices::classes_have_one_kind;
 pub use laws::{
     leaves_cover, no_aliases, obeyed_choices_cover, obeyed_choices_fall, readings_tell,
     tables_have_sums, tags_exist, unifiers_go_with, values_are_laid_out, values_choose,

@@ -26,7 +26,7 @@ use Rattle.fvn_combine_questions.specs.inner.Touched.{AreAllWide, IsNotedIn, IsS
 use Rattle.fvn_combine_leaves.specs.declared.reading.Sums.{Sums}
 use Rattle.fvn_combine_leaves.specs.declared.reading.Reading.{Reading}
 use Rattle.fvn_combine_leaves.proofs.ReadOfState.{column_within, reading_whole as whole_of_nodes, marked_to, marked_from, entry_of, twin_in, shared_in}
-use Rattle.fvn_combine_questions.proofs.Carrying.{carry, carried, minimal_carried}
+use Rattle.fvn_combine_systems.proofs.Carrying.{carry, carried, minimal_carried}
 
 -- what stands at a place is in the list
 contained_at : {X : Type 0} (xs : List X) (i : ℕ) (x : X) → slice_get xs i ≡ Some x → Contains xs x

@@ -2,5 +2,4 @@
 mod Swapping
 mod Walked
 mod Passing
-mod Carrying
 mod AskedOfLeaves

@@ -2,6 +2,7 @@
 pub mod Weighing
 pub mod Zeroes
 pub mod Members
+pub mod Carrying
 mod Counting
 mod OfProblems
 mod Sizes

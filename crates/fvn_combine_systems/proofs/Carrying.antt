@@ -10,7 +10,7 @@ use Rattle.fvn_terms.specs.declared.plain.OpId.{OpId}
 use Rattle.fvn_lindio.specs.declared.system.System.{System}
 use Rattle.fvn_lindio.specs.Vectors.{IsAtOrBelow, IsNonZero}
 use Rattle.fvn_lindio.specs.Systems.{IsZeroAt, IsUnused, Solves, IsMinimal, rows_of}
-use Rattle.fvn_flat.specs.SolvedLists.{component}
+use Rattle.fvn_combine_nodes.specs.FlatSolvedLists.{component}
 use Rattle.fvn_combine_nodes.specs.Table.{NodeTable}
 use Rattle.fvn_combine_nodes.proofs.Lists.{all_from}
 use Rattle.fvn_combine_systems.specs.NodeSystems.{addends, sums, coefficient, row_at, IsNodeSystem}
