@@ -55,6 +55,23 @@ step_on d t s f values go_with i j a b h some same = at (summands d s f values a
         let k = ap (λ v. length (parts d f v)) same in
         inl (omega (arith, m, n, k, some))
 
+-- a node has the summands of both nodes that it adds
+pub node_adds : (d : Declarations) (t : NodeTable) (s : State) → IsClosed d t s → IsWellMade t → HasSums d t → (f : OpId) → IsAssociative (axioms d f) → (j : ℕ) → j < length t.nodes → (p : ℕ × ℕ) → addends f (slice_get t.nodes j) ≡ Some p → (p.0 < length t.nodes) × (p.1 < length t.nodes) → (values : ℕ → FlatTerm) (go_with : GoWith d t s values) → Adds d t s f values go_with j p.0 p.1
+node_adds d t s closed made has f assoc j within p e l values go_with q =
+    let split : IsSplit t s f (class_of s j) (class_of s p.0, class_of s p.1) = record {
+      member = j;
+      left = p.0;
+      right = p.1;
+      over = addends_over f (slice_get t.nodes j) p e;
+      of = refl;
+      first = refl;
+      second = refl;
+    } in
+    let h = adds d t made has s closed f assoc j within (class_of s p.0, class_of s p.1) split values go_with q in
+    let a = ap (λ k. count q (parts d f (values k))) (own_name d t s closed p.0 l.0) in
+    let b = ap (λ k. count q (parts d f (values k))) (own_name d t s closed p.1 l.1) in
+    omega (arith, h, a, b)
+
 module _ (d : Declarations) (t : NodeTable) (s : State) (sorted : Bool) where
   module _ (closed : IsClosed d t s) (heads : List (Option OpId)) (are : TellHeads d t s sorted heads) where
     -- what is noted of a class heads its value
@@ -69,27 +86,10 @@ module _ (d : Declarations) (t : NodeTable) (s : State) (sorted : Bool) where
       noted_value = are.headed (class_of s k) g (name_within d t s closed k l) told.0 values go
 
     module _ (made : IsWellMade t) (has : HasSums d t) (f : OpId) (assoc : IsAssociative (axioms d f)) where
-      -- a node has the summands of both nodes that it adds
-      node_adds : (j : ℕ) → j < length t.nodes → (p : ℕ × ℕ) → addends f (slice_get t.nodes j) ≡ Some p → (p.0 < length t.nodes) × (p.1 < length t.nodes) → (values : ℕ → FlatTerm) (go_with : GoWith d t s values) → Adds d t s f values go_with j p.0 p.1
-      node_adds j within p e l values go_with q =
-          let split : IsSplit t s f (class_of s j) (class_of s p.0, class_of s p.1) = record {
-            member = j;
-            left = p.0;
-            right = p.1;
-            over = addends_over f (slice_get t.nodes j) p e;
-            of = refl;
-            first = refl;
-            second = refl;
-          } in
-          let h = adds d t made has s closed f assoc j within (class_of s p.0, class_of s p.1) split values go_with q in
-          let a = ap (λ k. count q (parts d f (values k))) (own_name d t s closed p.0 l.0) in
-          let b = ap (λ k. count q (parts d f (values k))) (own_name d t s closed p.1 l.1) in
-          omega (arith, h, a, b)
-
       -- what a last node adds last is added last
       pub last_step : (i j : ℕ) → j < length t.nodes → (p : ℕ × ℕ) → addends f (slice_get t.nodes j) ≡ Some p → (p.0 < length t.nodes) × (p.1 < length t.nodes) → IsAddedLast d t s sorted f i j → IsAddedLast d t s sorted f i p.1
       last_step i j within p e l last values go some =
-          let h = node_adds j within p e l values go.go in
+          let h = node_adds d t s closed made has f assoc j within p e l values go.go in
           let m = many_adds d t s f values go.go j p.0 p.1 h in
           elim (last values go (omega (arith, m, some))) [
             | inl two ↦ inl two
@@ -99,7 +99,7 @@ module _ (d : Declarations) (t : NodeTable) (s : State) (sorted : Bool) where
       -- a sum has the head that is noted of a class that it adds, or is a sum of several
       pub added_either : (i j : ℕ) → j < length t.nodes → IsAddedLast d t s sorted f i j → (p : ℕ × ℕ) → addends f (slice_get t.nodes j) ≡ Some p → (p.0 < length t.nodes) × (p.1 < length t.nodes) → (g : OpId) → IsNotedOfEither d f heads (class_of s p.0) (class_of s p.1) g → HasEitherHead d t s sorted i (f, g)
       added_either i j within last p e l g either values go =
-          let h = node_adds j within p e l values go.go in
+          let h = node_adds d t s closed made has f assoc j within p e l values go.go in
           let m = many_adds d t s f values go.go j p.0 p.1 h in
           elim either [
             | inl told ↦

@@ -11,4 +11,6 @@ mod HeadsTold
 mod Added
 mod Sizing
 mod EitherHead
+mod Clashes
 mod Standing
+mod Labels

@@ -150,18 +150,15 @@ fn note_head(heads: &mut Vec<Option<OpId>>, k: usize, f: OpId)
     heads[k] = Some(f);
 }
 
-// Whether f is noted of class k.
-fn is_noted(heads: &[Option<OpId>], k: usize, f: OpId) -> bool {
+// Whether a head is noted of class k.
+fn has_head(heads: &[Option<OpId>], k: usize) -> bool {
     if k >= heads.len() {
         return false;
     }
-    match heads[k] {
-        None => false,
-        Some(g) => g == f,
-    }
+    heads[k].is_some()
 }
 
-// Notes f of the classes of its sums that have two summands for sure.
+// Notes f of the classes of its sums that have two summands for sure; a class of which a head is noted keeps it.
 fn note_large(
     alloc: Global,
     sig: &Signature,
@@ -180,7 +177,7 @@ fn note_large(
 {
     let addition = addition_of(alloc, sig, table, state, known, f)?;
     for i in 0..table.nodes().len() {
-        if is_noted(known.heads.as_slice(), state.class_of(i), f) {
+        if has_head(known.heads.as_slice(), state.class_of(i)) {
             continue;
         }
         if !is_large(alloc, sig, table, state, known, &addition, i)? {

@@ -9,6 +9,7 @@ ghost use Rattle.fvn_combine_inferring.specs.Inferred.{TellHeads, IsInferred};
 ghost use Rattle.fvn_combine_inferring.specs.inner.Sizes.{AreInside};
 ghost use Rattle.fvn_combine_inferring.specs.inner.Splits.{IsAddition};
 
+use crate::clashing::clashing;
 use crate::expressions::{Addition, addition_of};
 use crate::heads::Known;
 use crate::rows::row_at;
@@ -166,5 +167,9 @@ pub fn infer(
         }
         asked = asked.or_told(told);
     }
-    Ok(asked)
+    let clash = clashing(sig, table, state, known);
+    if clash.is_fact() {
+        return Ok(clash);
+    }
+    Ok(clash.or_told(asked))
 }

@@ -4,10 +4,12 @@
 mod bags;
 mod bounds;
 mod cancelling;
+mod clashing;
 mod differing;
 mod expressions;
 mod heads;
 mod inferring;
+mod labelling;
 mod laws;
 mod meeting;
 mod possible;
@@ -21,4 +23,5 @@ mod summed;
 pub use differing::differ;
 pub use heads::{Known, known_of};
 pub use inferring::{Inferred, infer};
+pub use labelling::label_at;
 pub use laws::sorted_unifiers_go_with;

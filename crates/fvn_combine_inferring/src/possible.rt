@@ -114,7 +114,7 @@ fn node_heads(
 }
 
 // The heads that a member of the class of node k has.
-fn member_heads(
+pub(crate) fn member_heads(
     sig: &Signature,
     table: &Table,
     state: &State,
