@@ -1,10 +1,7 @@
 -- What a reading tells of a state, and leaves.
-use Rattle.std.proofs.Common.{◌≡◌, ◌≢◌, ◌⊎◌, ℕ, ◌<◌, List, [], ◌∷◌, length, get_or, sym, ap, ◌∙◌, subst, subst₂, slice_get, inl, inr, arith, All, Contains, Option, Some, None}
-use Rattle.std.proofs.lemmas.List.{get_or_default}
-use Rattle.std.proofs.lemmas.List.Elements.{All-contains, Contains-get_or}
-use Rattle.std.proofs.lemmas.Option.{slice_get_within, slice_get-get_or}
-use Rattle.fvn_base.proofs.Options.{Some-injective}
-use Rattle.fvn_base.proofs.Membership.{contains_map, map_contains}
+use Rattle.std.proofs.Common.{◌≡◌, ◌⊎◌, ℕ, ◌<◌, List, [], ◌∷◌, length, get_or, sym, ap, ◌∙◌, subst, subst₂, slice_get, inl, inr, arith, All, Contains, Option, Some, None}
+use Rattle.std.proofs.lemmas.List.Elements.{All-contains}
+use Rattle.fvn_base.proofs.Membership.{contains_map}
 use Rattle.fvn_terms.specs.declared.plain.OpId.{OpId}
 use Rattle.fvn_terms.specs.declared.declarations.Declarations.{Declarations}
 use Rattle.fvn_lindio.specs.declared.system.Solution.{Solution}
@@ -16,23 +13,16 @@ use Rattle.fvn_combine_questions.specs.Swaps.{IsSwap}
 use Rattle.fvn_combine_nodes.specs.declared.state.State.{State}
 use Rattle.fvn_combine_nodes.proofs.Nodes.{arguments_within}
 use Rattle.fvn_combine_nodes.proofs.Lists.{all_from}
-use Rattle.fvn_combine_systems.proofs.Weighing.{component_at}
-use Rattle.fvn_combine_leaves.specs.Leaves.{IsSolid, Uses, IsShared, MayBeConstant, IsSingle, HaveTwoHeads, AreTouched, AreTold, IsLive, IsNotedSum, IsNearLeaf, IsFirstQuestion, IsQuestion, IsFullQuestion}
+use Rattle.fvn_combine_leaves.specs.Leaves.{Uses, MayBeConstant, IsSingle, HaveTwoHeads, AreTouched, AreTold, IsLive, IsNotedSum, IsNearLeaf, IsFirstQuestion, IsQuestion, IsFullQuestion}
 use Rattle.fvn_combine_leaves.specs.Bases.{AreBases}
 use Rattle.fvn_combine_leaves.specs.Readings.{AreSums, IsReading}
 use Rattle.fvn_combine_questions.specs.inner.Past.{IsOpenPairOr, IsPastUser, ArePastIdentities, ArePastClasses, ArePastPairs}
-use Rattle.fvn_combine_leaves.specs.Users.{IsWhole, HasTwinIn, head_of, IsSharedIn, CanStand, CanBeConstant, HaveHeads}
+use Rattle.fvn_combine_leaves.specs.Users.{IsWhole, HasTwinIn, IsSharedIn, CanBeConstant, HaveHeads}
 use Rattle.fvn_combine_questions.specs.inner.Touched.{AreAllWide, IsNotedIn, IsSingleIn, AreToldIn, IsDead, IsPastSolution, AreAllPast}
 use Rattle.fvn_combine_leaves.specs.declared.reading.Sums.{Sums}
 use Rattle.fvn_combine_leaves.specs.declared.reading.Reading.{Reading}
 use Rattle.fvn_combine_leaves.proofs.ReadOfState.{column_within, reading_whole as whole_of_nodes, marked_to, marked_from, entry_of, twin_in, shared_in}
-use Rattle.fvn_combine_systems.proofs.Carrying.{carry, carried, minimal_carried}
-
--- what stands at a place is in the list
-contained_at : {X : Type 0} (xs : List X) (i : ℕ) (x : X) → slice_get xs i ≡ Some x → Contains xs x
-contained_at xs i x e =
-    let l = slice_get_within xs i x e in
-    (i, l, Some-injective (sym (slice_get-get_or xs i x l) ∙ e))
+use Rattle.fvn_combine_questions.proofs.ColumnsOfLeaves.{contained_at, place_of, HasOwn, can_be, two_heads, sums_at, node_at, told_of, column_of, own_of}
 
 module _ (d : Declarations) (t : NodeTable) (made : IsWellMade t) (s : State) (closed : IsClosed d t s) where
   -- two nodes that a swap asks of
@@ -49,34 +39,15 @@ module _ (d : Declarations) (t : NodeTable) (made : IsWellMade t) (s : State) (c
     pub reading_whole : IsWhole (length s.names) r
     reading_whole = subst (λ n. IsWhole n r) (sym closed.whole) (whole_of_nodes d t made s closed r reading)
 
-    can_be : (e : Sums) → Contains r.sums e → (k : ℕ) → MayBeConstant d t (class_of s) e.operator k → CanBeConstant r e k
-    can_be e c k m = (marked_to d t made s closed r reading e c k m.used, stand m.why)
-      where
-        within : k < length t.nodes
-        within = column_within d t made s closed e.operator k m.used.column
-
-        stand : ((g : OpId) × (g ≢ e.operator) × IsSolid d t (class_of s) g k) ⊎ IsShared d t (class_of s) k → CanStand r e.operator k (head_of r k)
-        stand (inl (g, n, solid)) = subst (CanStand r e.operator k) (sym ((reading.heads.exact k g within).1 solid)) n
-        stand (inr shared) = let i = shared_in d t made s closed r reading k within shared in subst (CanStand r e.operator k) (sym i.0) i.1
-
-    two_heads : (k l : ℕ) → k < length t.nodes → l < length t.nodes → HaveHeads r k l → HaveTwoHeads d t (class_of s) k l
-    two_heads k l a b (f, g, p, q, n) = record {
-      first = f;
-      second = g;
-      different = n;
-      heads_first = (reading.heads.exact k f a).0 p;
-      heads_second = (reading.heads.exact l g b).0 q;
-    }
-
     module _ (pairs : All (λ e. ArePastPairs s r e e.columns) r.sums) where
       -- classes that may be constants are told apart, whatever solutions there are
       apart_at : (e : Sums) → Contains r.sums e → (k l : ℕ) → MayBeConstant d t (class_of s) e.operator k → MayBeConstant d t (class_of s) e.operator l → HaveTwoHeads d t (class_of s) k l ⊎ (IsOpen s k l → ⊥)
       apart_at e c k l mk ml =
           let are = All-contains (AreSums d t (class_of s)) r.sums e reading.sums c in
-          let at_k = All-contains (λ k. CanBeConstant r e k → ArePastClasses s r e k e.columns) e.columns k (All-contains (λ e. ArePastPairs s r e e.columns) r.sums e pairs c) ((are.is_system.exact k).1 mk.used.column) (can_be e c k mk) in
-          let at_l = All-contains (λ l. CanBeConstant r e l → HaveHeads r k l ⊎ (IsOpen s k l → ⊥)) e.columns l at_k ((are.is_system.exact l).1 ml.used.column) (can_be e c l ml) in
+          let at_k = All-contains (λ k. CanBeConstant r e k → ArePastClasses s r e k e.columns) e.columns k (All-contains (λ e. ArePastPairs s r e e.columns) r.sums e pairs c) ((are.is_system.exact k).1 mk.used.column) (can_be d t made s closed r reading e c k mk) in
+          let at_l = All-contains (λ l. CanBeConstant r e l → HaveHeads r k l ⊎ (IsOpen s k l → ⊥)) e.columns l at_k ((are.is_system.exact l).1 ml.used.column) (can_be d t made s closed r reading e c l ml) in
           elim at_l [
-            | inl heads ↦ inl (two_heads k l (column_within d t made s closed e.operator k mk.used.column) (column_within d t made s closed e.operator l ml.used.column) heads)
+            | inl heads ↦ inl (two_heads d t made s closed r reading k l (column_within d t made s closed e.operator k mk.used.column) (column_within d t made s closed e.operator l ml.used.column) heads)
             | inr closed_pair ↦ inr closed_pair
           ]
 
@@ -120,23 +91,18 @@ module _ (d : Declarations) (t : NodeTable) (made : IsWellMade t) (s : State) (c
           let minimal = (basis.exact v.parts).0 (contains_map (λ (w : Solution). w.parts) (get_or bases i []) v c) in
           minimal.solves.sized ∙ sums.is_system.wide)
 
-      module _ (past : AreAllPast r s (IsNotedIn d heads) r.sums bases) where
+      module _ (past : AreAllPast r s (IsNotedIn d heads) bases) where
         -- classes that may be constants of the operator at this place are told apart, where a solution of its system has both
         module _ (e : Sums) (c : Contains r.sums e) where
           at_place : slice_get r.sums c.0 ≡ Some e
-          at_place = slice_get-get_or r.sums c.0 e c.1 ∙ ap Some c.2
+          at_place = place_of r.sums e c
 
-          sums_of : AreSums d t (class_of s) e
-          sums_of = All-contains (AreSums d t (class_of s)) r.sums e reading.sums c
-
-          -- the class of a column is a node
-          node_at : (j : ℕ) → j < length e.columns → get_or e.columns j 0 < length t.nodes
-          node_at j within = column_within d t made s closed e.operator (get_or e.columns j 0) ((sums_of.is_system.exact (get_or e.columns j 0)).0 (Contains-get_or e.columns j 0 within))
+          system_of : AreSums d t (class_of s) e
+          system_of = sums_at d t made s closed r reading c.0 e at_place
 
           -- columns that are told apart have classes that are
-          told_of : (i j : ℕ) → i < length e.columns → j < length e.columns → AreToldIn r e s i j → AreTold d t s (get_or e.columns i 0) (get_or e.columns j 0)
-          told_of i j a b (inl heads) = inl (two_heads (get_or e.columns i 0) (get_or e.columns j 0) (node_at i a) (node_at j b) heads)
-          told_of i j a b (inr closed_pair) = inr closed_pair
+          told_at : (i j : ℕ) → i < length e.columns → j < length e.columns → AreToldIn r e s i j → AreTold d t s (get_or e.columns i 0) (get_or e.columns j 0)
+          told_at = told_of d t made s closed r reading c.0 e at_place
 
           -- the class of a column that has a single summand is one
           single_of : (v : Solution) (i : ℕ) → i < length e.columns → IsSingleIn r e v i → IsSingle d t (class_of s) e.operator (get_or e.columns i 0)
@@ -146,32 +112,18 @@ module _ (d : Declarations) (t : NodeTable) (made : IsWellMade t) (s : State) (c
                 used = marked_from d t made s closed r reading e c (get_or e.columns i 0) h.used;
                 head = g.0;
                 other = g.2;
-                solid = (reading.heads.exact (get_or e.columns i 0) g.0 (node_at i within)).0 g.1;
+                solid = (reading.heads.exact (get_or e.columns i 0) g.0 (node_at d t made s closed r reading c.0 e at_place i within)).0 g.1;
               }
 
-          -- the column of a class
-          column_of : (k : ℕ) → MayBeConstant d t (class_of s) e.operator k → (j : ℕ) × (j < length e.columns) × (get_or e.columns j 0 ≡ k)
-          column_of k m =
-              let c = (sums_of.is_system.exact k).1 m.used.column in
-              (c.0, c.1, get_or_default e.columns c.0 0 k c.1 ∙ c.2)
-
           module _ (k l : ℕ) (mk : MayBeConstant d t (class_of s) e.operator k) (ml : MayBeConstant d t (class_of s) e.operator l) (nk : IsNotedSum d t heads e.operator k → ⊥) (nl : IsNotedSum d t heads e.operator l → ⊥) (h : AreTouched d t (class_of s) e.operator k l) (live : IsLive d t s e.operator h.columns h.solution) where
-            abbrev carried_solution : List ℕ
-            carried_solution = carry h.columns e.columns h.solution
-
-            -- the solution, in the order of the operator's columns
-            own_solution : (w : Solution) × (Contains (get_or bases c.0 []) w × (w.parts ≡ carried_solution))
-            own_solution =
-                let minimal = minimal_carried t (class_of s) e.operator h.columns e.columns h.system e.system h.is sums_of.is_system h.solution h.minimal in
-                map_contains (λ (w : Solution). w.parts) (get_or bases c.0 []) carried_solution (((are.each c.0 e at_place).exact carried_solution).1 minimal)
+            own_solution : HasOwn (get_or bases c.0 []) e h.columns h.solution
+            own_solution = own_of d t made s closed r reading c.0 e at_place bases are h.columns h.system h.is h.solution h.minimal
 
             abbrev own : Solution
-            own = own_solution.0
+            own = own_solution.own
 
             part : (j : ℕ) → j < length e.columns → get_or own.parts j 0 ≡ component h.columns h.solution (get_or e.columns j 0)
-            part j below =
-                ap (λ x. get_or x j 0) own_solution.1.1 ∙ sym (component_at e.columns carried_solution sums_of.is_system.distinct j below)
-                ∙ carried t (class_of s) e.operator h.columns e.columns h.system e.system h.is sums_of.is_system h.solution (get_or e.columns j 0)
+            part = own_solution.part
 
             not_dead : IsDead r e s own → ⊥
             not_dead x =
@@ -185,10 +137,10 @@ module _ (d : Declarations) (t : NodeTable) (made : IsWellMade t) (s : State) (c
                 let a = part i i_within in
                 let b = part j j_within in
                 live (get_or e.columns i 0) (get_or e.columns j 0)
-                (λ same. sums_of.is_system.distinct j i 0 before i_within (sym same))
+                (λ same. system_of.is_system.distinct j i 0 before i_within (sym same))
                 (single_of own i i_within x.dead.left) (single_of own j j_within x.dead.right)
                 (omega (arith, a, left)) (omega (arith, b, right))
-                (told_of i j i_within j_within x.dead.told)
+                (told_at i j i_within j_within x.dead.told)
 
             -- a class of which no sum is noted is not found as one
             not_noted : (m : ℕ) → (IsNotedSum d t heads e.operator m → ⊥) → (i : ℕ) → get_or e.columns i 0 ≡ m → IsNotedIn d heads e.operator (get_or e.columns i 0) → ⊥
@@ -196,21 +148,21 @@ module _ (d : Declarations) (t : NodeTable) (made : IsWellMade t) (s : State) (c
 
             apart_where_touched : AreTold d t s k l
             apart_where_touched =
-                let i = column_of k mk in
-                let j = column_of l ml in
+                let i = column_of d t made s closed r reading c.0 e at_place k mk in
+                let j = column_of d t made s closed r reading c.0 e at_place l ml in
                 let a = part i.0 i.1 in
                 let b = part j.0 j.1 in
                 let at_i = ap (component h.columns h.solution) i.2 in
                 let at_j = ap (component h.columns h.solution) j.2 in
                 let p = h.left in
                 let q = h.right in
-                elim (All-contains (IsPastSolution r e s (IsNotedIn d heads)) (get_or bases c.0 []) own (past c.0 e at_place) own_solution.1.0) [
+                elim (All-contains (IsPastSolution r e s (IsNotedIn d heads)) (get_or bases c.0 []) own (past c.0 e at_place) own_solution.listed) [
                   | inl x ↦ absurd (not_dead x)
-                  | inr at ↦ subst₂ (AreTold d t s) i.2 j.2 (told_of i.0 j.0 i.1 j.1 (at i.0 i.1 (omega (arith, a, at_i, p), subst (CanBeConstant r e) (sym i.2) (can_be e c k mk), not_noted k nk i.0 i.2) j.0 j.1 (omega (arith, b, at_j, q), subst (CanBeConstant r e) (sym j.2) (can_be e c l ml), not_noted l nl j.0 j.2)))
+                  | inr at ↦ subst₂ (AreTold d t s) i.2 j.2 (told_at i.0 j.0 i.1 j.1 (at i.0 i.1 (omega (arith, a, at_i, p), subst (CanBeConstant r e) (sym i.2) (can_be d t made s closed r reading e c k mk), not_noted k nk i.0 i.2) j.0 j.1 (omega (arith, b, at_j, q), subst (CanBeConstant r e) (sym j.2) (can_be d t made s closed r reading e c l ml), not_noted l nl j.0 j.2)))
                 ]
 
       -- the answer where pairs are asked that a solution has both of
-      pub asked_on_touched : IsNearLeaf d t s → (o : Option (ℕ × ℕ)) → IsOpenPairOr s (AreAllPast r s (IsNotedIn d heads) r.sums bases) o → IsQuestion d t heads s o
+      pub asked_on_touched : IsNearLeaf d t s → (o : Option (ℕ × ℕ)) → IsOpenPairOr s (AreAllPast r s (IsNotedIn d heads) bases) o → IsQuestion d t heads s o
       asked_on_touched near None past = record { closed = near.closed; partition = near.partition; identities = near.identities; constants = touched }
         where
           touched : (f : OpId) (k l : ℕ) → MayBeConstant d t (class_of s) f k → MayBeConstant d t (class_of s) f l → (IsNotedSum d t heads f k → ⊥) → (IsNotedSum d t heads f l → ⊥) → (both : AreTouched d t (class_of s) f k l) → IsLive d t s f both.columns both.solution → AreTold d t s k l
@@ -218,4 +170,4 @@ module _ (d : Declarations) (t : NodeTable) (made : IsWellMade t) (s : State) (c
               let a = entry_of d t made s closed r reading f k mk.used in
               subst (λ o. (mk : MayBeConstant d t (class_of s) o k) (ml : MayBeConstant d t (class_of s) o l) (nk : IsNotedSum d t heads o k → ⊥) (nl : IsNotedSum d t heads o l → ⊥) (both : AreTouched d t (class_of s) o k l) → IsLive d t s o both.columns both.solution → AreTold d t s k l) a.operator
               (apart_where_touched past a.entry a.listed k l) mk ml nk nl both live
-      asked_on_touched near (Some p) h = pair_question (AreAllPast r s (IsNotedIn d heads) r.sums bases) p h
+      asked_on_touched near (Some p) h = pair_question (AreAllPast r s (IsNotedIn d heads) bases) p h

@@ -2,4 +2,6 @@
 mod Swapping
 mod Walked
 mod Passing
+mod ColumnsOfLeaves
 mod AskedOfLeaves
+mod Labelled

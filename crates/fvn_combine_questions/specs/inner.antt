@@ -2,3 +2,4 @@
 pub mod Swaps
 pub mod Past
 pub mod Touched
+pub mod Labels

@@ -5,9 +5,11 @@ mod asking;
 mod backwards;
 mod constants;
 mod identities;
+mod labels;
 mod standing;
 mod swaps;
 mod touched;
 
 pub use asking::{first_question, question_on_all, question_on_touched};
+pub use labels::sieve_labels;
 pub use swaps::undecided;

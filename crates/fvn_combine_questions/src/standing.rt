@@ -1,5 +1,5 @@
 //! Which classes may be constants of an operator, which are noted as sums by it, and which have different heads.
-ghost use Rattle.std.specs.Prelude.{◌≡◌, ◌↔◌, ◌<◌, length, slice_index_or, None, IsTrue};
+ghost use Rattle.std.specs.Prelude.{◌≡◌, ◌↔◌, ◌<◌, length, slice_index_or, None, Some, IsTrue};
 ghost use Rattle.fvn_combine_leaves.specs.Users.{IsWholeSums, IsWhole, CanBeConstant, HaveHeads};
 ghost use Rattle.fvn_combine_questions.specs.inner.Touched.{IsNotedIn, HasOtherHead};
 
@@ -25,12 +25,22 @@ pub(crate) fn may_be_constant(reading: &Reading, n: usize, sums: &Sums, k: usize
 }
 
 // The operator that is noted as what heads class k.
-fn noted_head(heads: &[Option<OpId>], k: usize) -> Option<OpId>
+pub(crate) fn noted_head(heads: &[Option<OpId>], k: usize) -> Option<OpId>
     ensures { result ≡ slice_index_or heads.now k None }
 {
     match heads.get(k) {
         None => None,
         Some(head) => *head,
+    }
+}
+
+// Whether f is noted as what heads class k.
+pub(crate) fn is_noted(heads: &[Option<OpId>], f: OpId, k: usize) -> bool
+    ensures { IsTrue result → slice_index_or heads.now k None ≡ Some f }
+{
+    match noted_head(heads, k) {
+        None => false,
+        Some(g) => g == f,
     }
 }
 

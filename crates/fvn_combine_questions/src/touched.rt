@@ -33,7 +33,7 @@ use fvn_signature::Signature;
 use fvn_terms::OpId;
 
 // Whether the solution is above zero in column i.
-fn has_column(v: &Solution, i: usize) -> bool
+pub(crate) fn has_column(v: &Solution, i: usize) -> bool
     requires { i < length v.now.parts }
     ensures { IsTrue result ↔ (0 < slice_index v.now.parts i) }
 {
@@ -41,7 +41,7 @@ fn has_column(v: &Solution, i: usize) -> bool
 }
 
 // Whether the solution has column i, whose class may be a constant of the operator, and is not noted as a sum by it.
-fn stands(
+pub(crate) fn stands(
     sig: &Signature,
     reading: &Reading,
     heads: &[Option<OpId>],
@@ -85,7 +85,7 @@ fn is_single(reading: &Reading, n: usize, sums: &Sums, v: &Solution, i: usize) -
 }
 
 // Whether heads tell the classes of columns i and j apart, or it is not open whether they are one.
-fn are_told(state: &State, reading: &Reading, sums: &Sums, i: usize, j: usize) -> bool
+pub(crate) fn are_told(state: &State, reading: &Reading, sums: &Sums, i: usize, j: usize) -> bool
     requires naming { IsNaming state.now }
     requires reading { IsWhole (length state.now.names) reading.now }
     requires sums { IsWholeSums (length state.now.names) sums.now }
@@ -251,7 +251,7 @@ pub(crate) fn open_touched(
     requires as_many { length bases.now ≡ length reading.now.sums }
     requires wide { AreAllWide reading.now.sums bases.now }
     ensures { IsOpenPairOr state.now
-        (AreAllPast reading.now state.now (IsNotedIn sig.now heads.now) reading.now.sums bases.now)
+        (AreAllPast reading.now state.now (IsNotedIn sig.now heads.now) bases.now)
         result }
 {
     let sums = reading.sums.as_slice();

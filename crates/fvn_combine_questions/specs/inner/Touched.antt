@@ -71,5 +71,5 @@ module _ (r : Reading) (e : Sums) where
       ArePastTouched basis = All IsPastSolution basis
 
 -- of each operator
-abbrev pub AreAllPast : Reading → State → (noted : OpId → ℕ → Type 0) → List Sums → List (List Solution) → Type 0
-AreAllPast r s noted sums bases = (i : ℕ) (e : Sums) → slice_get sums i ≡ Some e → ArePastTouched r e s noted (slice_index_or bases i [])
+abbrev pub AreAllPast : Reading → State → (noted : OpId → ℕ → Type 0) → List (List Solution) → Type 0
+AreAllPast r s noted bases = (i : ℕ) (e : Sums) → slice_get r.sums i ≡ Some e → ArePastTouched r e s noted (slice_index_or bases i [])
