@@ -1,5 +1,5 @@
 -- The node names its class; what is known to head it comes first.
-use Rattle.std.proofs.Common.{◌<◌, List, length, sym, subst, inl, inr, arith, Option, Some, None}
+use Rattle.std.proofs.Common.{List, subst, inl, arith, Option, Some, None}
 use Rattle.std.specs.Prelude.{◌≡◌, slice_index_or}
 use Rattle.fvn_terms.specs.declared.plain.OpId.{OpId}
 use Rattle.fvn_combine.proofs.labels.candidate_at.Goals as goal

@@ -1,5 +1,5 @@
 -- Candidates for which the classes have room are obeyed.
-use Rattle.std.proofs.Common.{List, sym, ap, ◌∙◌, subst, Option}
+use Rattle.std.proofs.Common.{List, sym, ◌∙◌, subst, Option}
 use Rattle.fvn_terms.specs.declared.plain.OpId.{OpId}
 use Rattle.fvn_combine_nodes.specs.States.{IsClosed, class_of}
 use Rattle.fvn_combine_leaves.specs.Leaves.{AreLabels}
