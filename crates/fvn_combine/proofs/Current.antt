@@ -50,13 +50,13 @@ module _ (k : Combining) (s : State) (r : Reading) (bases : List (List Solution)
     abbrev under_after : Turning
     under_after = record { tags = tags; wheels = after }
 
-    pub fewer_under : (u : Substitution) → IsCoveredUnder k s r bases under_after u → IsCoveredUnder k s r bases under_before u
-    fewer_under u h = record { numbers = h.numbers; pending = (taken h.numbers).1 (inr h.pending); covered = h.covered }
+    pub fewer_under : (labels : List (Option OpId)) (u : Substitution) → IsCoveredUnder k s r bases labels under_after u → IsCoveredUnder k s r bases labels under_before u
+    fewer_under labels u h = record { numbers = h.numbers; pending = (taken h.numbers).1 (inr h.pending); covered = h.covered }
 
     -- what was to come is covered by the numbers that are passed, or still to come
-    pub passed_or_to_come : (numbers : List ℕ) → before.current ≡ Some numbers → (u : Substitution) → IsCoveredUnder k s r bases under_before u → IsCoveredBy k s r bases tags numbers u ⊎ IsCoveredUnder k s r bases under_after u
-    passed_or_to_come numbers now u h = elim ((taken h.numbers).0 h.pending) [
-      | inl e ↦ inl (subst (λ n. IsCoveredBy k s r bases tags n u) (Some-injective (sym e ∙ now)) h.covered)
+    pub passed_or_to_come : (numbers : List ℕ) → before.current ≡ Some numbers → (labels : List (Option OpId)) (u : Substitution) → IsCoveredUnder k s r bases labels under_before u → IsCoveredBy k s r bases labels tags numbers u ⊎ IsCoveredUnder k s r bases labels under_after u
+    passed_or_to_come numbers now labels u h = elim ((taken h.numbers).0 h.pending) [
+      | inl e ↦ inl (subst (λ n. IsCoveredBy k s r bases labels tags n u) (Some-injective (sym e ∙ now)) h.covered)
       | inr p ↦ inr (record { numbers = h.numbers; pending = p; covered = h.covered })
     ]
 

@@ -6,6 +6,7 @@ mod PassedTags
 mod TagsBy
 mod Homeless
 mod Listing
+mod Labelled
 mod Items
 mod Walk
 mod Standing

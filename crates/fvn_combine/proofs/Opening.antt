@@ -4,7 +4,6 @@ use Rattle.std.specs.List.{AllZip}
 use Rattle.std.proofs.lemmas.Bool.{cases_Bool}
 use Rattle.fvn_terms.specs.declared.plain.OpId.{OpId}
 use Rattle.fvn_terms.specs.Substitution.{Substitution}
-use Rattle.fvn_forms.specs.Flat.{FlatTerm}
 use Rattle.fvn_flat.specs.Solving.{problem_of}
 use Rattle.fvn_lindio.specs.declared.system.Solution.{Solution}
 use Rattle.fvn_combine_nodes.specs.States.{Admits, class_of}
@@ -19,16 +18,13 @@ use Rattle.fvn_combine_choices.specs.Choosing.{Choice}
 use Rattle.fvn_combine_choices.specs.Plans.{AreOfOneKind}
 use Rattle.fvn_combine_drawing.specs.CombineAdmissibleListed.{systems_of}
 use Rattle.fvn_combine_drawing.specs.CombineCompleteLaws.{ReadingsTell}
-use Rattle.fvn_combine_drawing.specs.CombineCompleteObeying.{ObeyHeads}
 use Rattle.fvn_combine_drawing.specs.CombineBoundsLaws.{SortedLeavesCover}
 use Rattle.fvn_combine_drawing.specs.CombineCandidatesLaws.{BasesMakeSystems, CoveringChoicesAreListed}
 use Rattle.fvn_combine_drawing.specs.CombineCandidatesSharing.{AreSharedClasses}
 use Rattle.fvn_combine_drawing.specs.CombineCandidatesTags.{tag_counts}
 use Rattle.fvn_combine_drawing.specs.CombineCandidatesDeclared.sharing.SharedClass.{SharedClass}
 use Rattle.fvn_combine_inferring.specs.Laws.{SortedUnifiersGoWith}
-use Rattle.fvn_combine_inferring.specs.Sorted.{GoWithSorts}
 use Rattle.fvn_combine_loose.specs.Laws.{AreVariables, LooseClassesAreVariables, MoreGeneralIsAPreorder}
-use Rattle.fvn_combine_inferring.specs.declared.heads.Known.{Known}
 use Rattle.fvn_combine_drawing.specs.CombineTriangularReady.{IsReady}
 use Rattle.fvn_combine.specs.Tasks.{Combining, IsCombining, HoldsFor}
 use Rattle.fvn_combine.specs.Leaves.{IsSortedCovering, IsOpened, IsCoveredToCome}
@@ -56,11 +52,11 @@ module _ (k : Combining) (is : IsCombining k) (s : State) where
     kinds = kinds;
   }
 
-  module _ (r : Reading) (known : Known) (bases : List (List Solution)) (shared : List SharedClass) (tags : Tagging) (loose : List ℕ) (ready : IsReady k.declarations k.given k.first k.table s) (reading : IsReading k.declarations k.table (class_of s) r) (are_shared : AreSharedClasses k.declarations k.table (class_of s) k.sorted shared) where
+  module _ (r : Reading) (labels : List (Option OpId)) (bases : List (List Solution)) (shared : List SharedClass) (tags : Tagging) (loose : List ℕ) (ready : IsReady k.declarations k.given k.first k.table s) (reading : IsReading k.declarations k.table (class_of s) r) (are_shared : AreSharedClasses k.declarations k.table (class_of s) k.sorted shared) where
     abbrev opened_leaf : Opened
-    opened_leaf = record { reading = r; known = known; bases = bases; shared = shared; tags = tags; loose = loose; turning = None }
+    opened_leaf = record { reading = r; labels = labels; bases = bases; shared = shared; tags = tags; loose = loose; turning = None }
 
-    pub all_to_come : CoveringChoicesAreListed → tags.counts ≡ tag_counts shared → ((options : List ℕ) → AllZip IsOption tags.counts options → PendingTags tags options) → (u : Substitution) (c : Choice) → AreVariables k.declarations k.table loose u → IsSortedCovering k s r bases u c → IsCoveredToCome k s opened_leaf u
+    pub all_to_come : CoveringChoicesAreListed → tags.counts ≡ tag_counts shared → ((options : List ℕ) → AllZip IsOption tags.counts options → PendingTags tags options) → (u : Substitution) (c : Choice) → AreVariables k.declarations k.table loose u → IsSortedCovering k s r bases labels u c → IsCoveredToCome k s opened_leaf u
     all_to_come law counts pending u c variables h =
         let l = law k.declarations (problem_of k.given) k.table is.well_made s ready.closed r reading k.sorted shared are_shared (systems_of r bases) u c h.covering h.bounds in (
           variables,
@@ -75,31 +71,27 @@ module _ (k : Combining) (is : IsCombining k) (s : State) where
                   covering = listed.0;
                   bounds = listed.1;
                   values = h.values;
-                  tagged = λ x f shared uses.
-                      let obeyed = h.tagged x f shared uses in
-                      (λ e. obeyed.0 (sym (listed.2 x) ∙ e), λ sum. listed.2 x ∙ obeyed.1 sum);
+                  follow = λ x f shared uses.
+                      let follows = h.follow x f shared uses in
+                      record { noted = λ n. listed.2 x ∙ follows.noted n; meant = λ e. follows.meant (sym (listed.2 x) ∙ e) };
                 };
           }),
         )
 
-  -- values that go with the leaf obey what is known of heads
-  obeyed : (o : Opened) → IsOpened k s o → (values : ℕ → FlatTerm) → GoWithSorts k.declarations k.table s k.sorted values → ObeyHeads k.declarations k.table o.known.heads.items values
-  obeyed o opened values go x f within noted = opened.known.joined x f within noted.noted noted.some values (subst (λ b. GoWithSorts k.declarations k.table s b values) (sym opened.sorted) go)
-
   -- each unifier that is asked for, that the state admits and that has variables in the loose classes is covered by a choice that is to come
-  pub covers_admitted : SortedUnifiersGoWith → SortedLeavesCover → ReadingsTell → BasesMakeSystems → (o : Opened) → IsOpened k s o → ((u : Substitution) (c : Choice) → AreVariables k.declarations k.table o.loose u → IsSortedCovering k s o.reading o.bases u c → IsCoveredToCome k s o u) → (u : Substitution) → IsAdmittedBy k s u → AreVariables k.declarations k.table o.loose u → IsCoveredToCome k s o u
+  pub covers_admitted : SortedUnifiersGoWith → SortedLeavesCover → ReadingsTell → BasesMakeSystems → (o : Opened) → IsOpened k s o → ((u : Substitution) (c : Choice) → AreVariables k.declarations k.table o.loose u → IsSortedCovering k s o.reading o.bases o.labels u c → IsCoveredToCome k s o u) → (u : Substitution) → IsAdmittedBy k s u → AreVariables k.declarations k.table o.loose u → IsCoveredToCome k s o u
   covers_admitted go_with cover tell make o opened all u h variables =
       let told = tell k.declarations k.table s opened.leaf.closed o.reading opened.reading in
       let systems = make k.declarations k.table (class_of s) o.reading opened.reading o.bases opened.bases in
       let values = values_admitted k is go_with s opened.leaf.closed u h in
-      let heads = obeyed o opened (value_at k.declarations u k.table.nodes) values in
-      let c = cover k.declarations is.good (problem_of k.given) is.is_given.kinds k.table is.well_made is.table_of s o.known.heads.items opened.leaf told (systems_of o.reading o.bases) systems u h.0.unifies h.1 heads in
+      let obeyed = opened.labels (value_at k.declarations u k.table.nodes) values in
+      let c = cover k.declarations is.good (problem_of k.given) is.is_given.kinds k.table is.well_made is.table_of s o.labels opened.leaf told (systems_of o.reading o.bases) systems u h.0.unifies h.1 obeyed in
       all u c.0 variables
       record {
         covering = c.1;
         bounds = λ e. c.2 (h.0.keeps_sorts e);
         values = values;
-        tagged = c.3;
+        follow = c.3;
       }
 
   -- so it is of one that stands for each, where all of these are covered

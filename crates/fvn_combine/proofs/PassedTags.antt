@@ -1,7 +1,7 @@
--- Tags that go against what is known of the values of classes, or are those of loose classes, or leave a class without a home, cover
+-- Tags that go against what is noted of classes, or are those of loose classes, or leave a class without a home, cover
 -- nothing, whatever the tags of the later classes are: all these are passed over at once.
 use Rattle.std.proofs.Common.{◌≡◌, ℕ, ◌+◌, ◌<◌, List, length, take, get_or, refl, sym, ◌∙◌, subst, ap, inl, inr, arith, zero-le, Option, Some, None, true, false, All, Any, Contains}
-use Rattle.std.specs.Prelude.{Bool, ◌⊎◌, slice_get}
+use Rattle.std.specs.Prelude.{◌⊎◌, slice_get}
 use Rattle.std.proofs.lemmas.List.{length-map}
 use Rattle.std.proofs.lemmas.List.Elements.{All-contains}
 use Rattle.std.proofs.lemmas.Option.{slice_get_within, get_or_from_slice_get}
@@ -22,7 +22,6 @@ use Rattle.fvn_combine_drawing.specs.CombineCandidatesSharing.{IsSharedClass}
 use Rattle.fvn_combine_drawing.specs.CombineCandidatesTags.{AreTags, user_at}
 use Rattle.fvn_combine_drawing.specs.CombineCandidatesDeclared.sharing.SharedClass.{SharedClass}
 use Rattle.fvn_combine_drawing.specs.CombineCompleteObeying.{IsSumOrIdentityOf}
-use Rattle.fvn_combine_inferring.specs.Sorted.{GoWithSorts}
 use Rattle.fvn_combine_loose.specs.Laws.{AreVariables}
 use Rattle.fvn_combine.specs.Tasks.{Combining, IsCombining}
 use Rattle.fvn_combine.specs.Leaves.{IsCoveredBy, IsCoveredLater, IsCoveredToCome, IsOpened}
@@ -85,20 +84,18 @@ module _ (k : Combining) (s : State) (o : Opened) (opened : IsOpened k s o) wher
         ∙ sym (tag_at o.shared options opened.shared.distinct (option_each options pending) q.0 a q.2)
         ∙ sym (are a.class)
 
-    -- the tag of a class whose value is a sum is another one
-    against_head : (others : List (Option OpId)) → ((a : SharedClass) → Contains decided a → tag_in others a.class ≡ tag_in tags a.class) → Any (IsAgainst k.declarations o.known.heads.items tags) decided → (numbers : List ℕ) (u : Substitution) → IsCoveredBy k s o.reading o.bases others numbers u → ⊥
+    -- the tag of a class is another one than what is noted of it
+    against_head : (others : List (Option OpId)) → ((a : SharedClass) → Contains decided a → tag_in others a.class ≡ tag_in tags a.class) → Any (IsAgainst k.declarations o.labels tags) decided → (numbers : List ℕ) (u : Substitution) → IsCoveredBy k s o.reading o.bases o.labels others numbers u → ⊥
     against_head others same any numbers u h =
         let c = any.1 in
         let a = any.4 in
         let listed : Contains decided c = (any.0, any.2, any.3) in
         let each = is_shared c listed in
         let uses = ((each.exact a.head).0 a.user).0 in
-        let values = subst (λ (b : Bool). GoWithSorts k.declarations k.table s b (value_at k.declarations u k.table.nodes)) (sym opened.sorted) h.values in
-        let sum = opened.known.joined c.class a.head each.within a.noted a.some (value_at k.declarations u k.table.nodes) values in
-        a.other (sym (same c listed) ∙ (h.tagged c.class a.head each.shared uses).1 (inl sum))
+        a.other (sym (same c listed) ∙ (h.follow c.class a.head each.shared uses).noted (record { noted = a.noted; some = a.some }))
 
-    -- the value of a loose class is a variable, and no sum of its tag
-    against_loose : (others : List (Option OpId)) → ((a : SharedClass) → Contains decided a → tag_in others a.class ≡ tag_in tags a.class) → Any (IsLooseAgainst o.loose tags) decided → (numbers : List ℕ) (u : Substitution) → AreVariables k.declarations k.table o.loose u → IsCoveredBy k s o.reading o.bases others numbers u → ⊥
+    -- the value of a loose class is a variable, and no sum of its tag, and nothing is noted of it
+    against_loose : (others : List (Option OpId)) → ((a : SharedClass) → Contains decided a → tag_in others a.class ≡ tag_in tags a.class) → Any (IsLooseAgainst o.loose o.labels tags) decided → (numbers : List ℕ) (u : Substitution) → AreVariables k.declarations k.table o.loose u → IsCoveredBy k s o.reading o.bases o.labels others numbers u → ⊥
     against_loose others same any numbers u variables h =
         let c = any.1 in
         let a = any.4 in
@@ -107,9 +104,11 @@ module _ (k : Combining) (s : State) (o : Opened) (opened : IsOpened k s o) wher
         let q = decided_at c listed in
         let tag : tag_in tags c.class ≡ user_at c.users (get_or options q.0 0) = are c.class ∙ tag_at o.shared options opened.shared.distinct (option_each options pending) q.0 c q.2 in
         let f = some_user c.users (get_or options q.0 0) (λ e. a.tagged (tag ∙ e)) in
-        let sum = (h.tagged c.class f.0 each.shared ((each.exact f.0).0 f.1).0).0 (same c listed ∙ tag ∙ f.2) in
         let x = All-contains (λ z. (x : Var) × (value_at k.declarations u k.table.nodes z ≡ fvar x)) o.loose c.class variables a.loose_class in
-        no_sum k.declarations f.0 x.0 (value_at k.declarations u k.table.nodes c.class) x.1 sum
+        elim ((h.follow c.class f.0 each.shared ((each.exact f.0).0 f.1).0).meant (same c listed ∙ tag ∙ f.2)) [
+          | inl sum ↦ no_sum k.declarations f.0 x.0 (value_at k.declarations u k.table.nodes c.class) x.1 sum
+          | inr noted ↦ let e : Some f.0 ≡ None = sym noted.noted ∙ a.not_noted in cc
+        ]
 
     -- options that agree up to the place cover nothing
     none_covered : (u : Substitution) → AreVariables k.declarations k.table o.loose u → (h : IsCoveredLater k s o u) → AgreesUpTo place (Some options) h.options → ⊥
@@ -129,15 +128,15 @@ module _ (k : Combining) (s : State) (o : Opened) (opened : IsOpened k s o) wher
 
     module _ (after : Tagging) (counts : after.counts ≡ o.tags.counts) (now : o.tags.current ≡ Some options) (taken : (n : List ℕ) → PendingTags o.tags n → AgreesUpTo place o.tags.current n ⊎ PendingTags after n) (kept : (n : List ℕ) → PendingTags after n → PendingTags o.tags n) (falls : tags_left after < tags_left o.tags) where
       abbrev passed_leaf : Opened
-      passed_leaf = record { reading = o.reading; known = o.known; bases = o.bases; shared = o.shared; tags = after; loose = o.loose; turning = None }
+      passed_leaf = record { reading = o.reading; labels = o.labels; bases = o.bases; shared = o.shared; tags = after; loose = o.loose; turning = None }
 
       still_opened : IsOpened k s passed_leaf
       still_opened = record {
         ready = opened.ready;
         leaf = opened.leaf;
         reading = opened.reading;
-        known = opened.known;
-        sorted = opened.sorted;
+        labels = opened.labels;
+        as_many = opened.as_many;
         bases = opened.bases;
         shared = opened.shared;
         counts = counts ∙ opened.counts;

@@ -29,7 +29,7 @@ module _ (k : Combining) (is : IsCombining k) (possible : ListedChoicesArePossib
   current = record { tags = tags; wheels = wheels }
 
   abbrev turned_leaf : Opened
-  turned_leaf = record { reading = o.reading; known = o.known; bases = o.bases; shared = o.shared; tags = after; loose = o.loose; turning = Some current }
+  turned_leaf = record { reading = o.reading; labels = o.labels; bases = o.bases; shared = o.shared; tags = after; loose = o.loose; turning = Some current }
 
   is_turning : IsTurning k s o.reading o.bases o.shared current
   is_turning = record { options = options; are_tags = are; are_wheels = asked }
@@ -39,8 +39,8 @@ module _ (k : Combining) (is : IsCombining k) (possible : ListedChoicesArePossib
     ready = opened.ready;
     leaf = opened.leaf;
     reading = opened.reading;
-    known = opened.known;
-    sorted = opened.sorted;
+    labels = opened.labels;
+    as_many = opened.as_many;
     bases = opened.bases;
     shared = opened.shared;
     counts = counts ∙ opened.counts;
@@ -78,7 +78,7 @@ module _ (k : Combining) (is : IsCombining k) (possible : ListedChoicesArePossib
     pending = (taken options).1 (inl now);
     numbers = h.numbers;
     as_many = AllZip-long IsChoice wheels.wheels h.numbers h.pending.0 ∙ asked.as_many;
-    covered = λ others a. subst (IsSortedCovering k s o.reading o.bases u) (sym (same_choice others h.numbers a)) h.covered;
+    covered = λ others a. subst (IsSortedCovering k s o.reading o.bases o.labels u) (sym (same_choice others h.numbers a)) h.covered;
   }
   was_to_come u (_, inr h) = record {
     options = h.options;

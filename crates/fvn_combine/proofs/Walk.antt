@@ -14,7 +14,7 @@ use Rattle.fvn_combine.specs.inner.Found.{IsDrawnFrom, IsSameButCurrent}
 
 module _ (k : Combining) (s : State) where
   -- what is to come later does not rest on the current tags
-  later_under : (o : Opened) (current : Option Turning) (u : Substitution) → IsCoveredLater k s o u → IsCoveredLater k s (record { reading = o.reading; known = o.known; bases = o.bases; shared = o.shared; tags = o.tags; loose = o.loose; turning = current }) u
+  later_under : (o : Opened) (current : Option Turning) (u : Substitution) → IsCoveredLater k s o u → IsCoveredLater k s (record { reading = o.reading; labels = o.labels; bases = o.bases; shared = o.shared; tags = o.tags; loose = o.loose; turning = current }) u
   later_under o current u h = record {
     options = h.options;
     pending = h.pending;
@@ -26,12 +26,12 @@ module _ (k : Combining) (s : State) where
   module _ (before after : Opened) (same : IsSameButCurrent before after) where
     pub later_kept : (u : Substitution) → IsCoveredLater k s before u → IsCoveredLater k s after u
     later_kept u h = subst (λ o. IsCoveredLater k s o u)
-        (λ i. record { reading = (sym same.reading) i; known = (sym same.known) i; bases = (sym same.bases) i; shared = (sym same.shared) i; tags = (sym same.tags) i; loose = (sym same.loose) i; turning = after.turning })
+        (λ i. record { reading = (sym same.reading) i; labels = (sym same.labels) i; bases = (sym same.bases) i; shared = (sym same.shared) i; tags = (sym same.tags) i; loose = (sym same.loose) i; turning = after.turning })
         (later_under before after.turning u h)
 
     pub later_was : (u : Substitution) → IsCoveredLater k s after u → IsCoveredLater k s before u
     later_was u h = subst (λ o. IsCoveredLater k s o u)
-        (λ i. record { reading = same.reading i; known = same.known i; bases = same.bases i; shared = same.shared i; tags = same.tags i; loose = same.loose i; turning = before.turning })
+        (λ i. record { reading = same.reading i; labels = same.labels i; bases = same.bases i; shared = same.shared i; tags = same.tags i; loose = same.loose i; turning = before.turning })
         (later_under after before.turning u h)
 
     -- loose classes have variables before and after

@@ -85,6 +85,7 @@ module _ (k : Combining) (s : State) where
     pub leaf : IsLeaf k.declarations k.table o.labels s
     pub reading : IsReading k.declarations k.table (class_of s) o.reading
     pub labels : TellLabels k.declarations k.table s k.sorted o.labels
+    pub as_many : length o.labels ≡ length k.table.nodes
     pub bases : AreBases o.reading.sums o.bases
     pub shared : AreSharedClasses k.declarations k.table (class_of s) k.sorted o.shared
     pub counts : o.tags.counts ≡ tag_counts o.shared

@@ -4,3 +4,4 @@ pub mod Parts
 pub mod Alike
 pub mod Against
 pub mod Homes
+pub mod Labels

@@ -1,4 +1,4 @@
-//! Tags that go against what is known of the values of classes.
+//! Tags that go against what is noted of classes.
 ghost use Rattle.std.specs.Prelude.{◌≡◌, ◌<◌, length, All, Any, Contains, IsTrue, IfSome};
 ghost use Rattle.fvn_combine_leaves.specs.Users.{IsWhole};
 ghost use Rattle.fvn_combine.specs.inner.Against.{IsAgainst, IsLooseAgainst, IsAgainstUpTo, IsAgainstAt};
@@ -22,18 +22,18 @@ fn is_user(users: &[OpId], g: OpId) -> bool
     false
 }
 
-// Whether the value of a shared class is known to be a sum by an operator that uses it, and its tag is another one.
+// Whether an operator with an identity that uses a shared class is noted of it, and its tag is another one.
 fn is_against(
     sig: &Signature,
     entry: &SharedClass,
-    heads: &[Option<OpId>],
+    labels: &[Option<OpId>],
     tags: &[Option<OpId>],
 ) -> bool
-    requires heads { entry.now.class < length heads.now }
+    requires labels { entry.now.class < length labels.now }
     requires tags { entry.now.class < length tags.now }
-    ensures { IsTrue result → IsAgainst sig.now heads.now tags.now entry.now }
+    ensures { IsTrue result → IsAgainst sig.now labels.now tags.now entry.now }
 {
-    match heads[entry.class] {
+    match labels[entry.class] {
         None => false,
         Some(g) => {
             if has_no_identity(sig.axioms(g)) {
@@ -47,39 +47,39 @@ fn is_against(
     }
 }
 
-// Whether some tag goes against what is known of its class.
+// Whether some tag goes against what is noted of its class.
 fn go_against(
     sig: &Signature,
     shared: &[SharedClass],
-    heads: &[Option<OpId>],
+    labels: &[Option<OpId>],
     tags: &[Option<OpId>],
 ) -> bool
-    requires heads { All (λ c. c.class < length heads.now) shared.now }
+    requires labels { All (λ c. c.class < length labels.now) shared.now }
     requires tags { All (λ c. c.class < length tags.now) shared.now }
-    ensures { IsTrue result → Any (IsAgainst sig.now heads.now tags.now) shared.now }
+    ensures { IsTrue result → Any (IsAgainst sig.now labels.now tags.now) shared.now }
 {
     for entry in shared {
-        if is_against(sig, entry, heads, tags) {
+        if is_against(sig, entry, labels, tags) {
             return true;
         }
     }
     false
 }
 
-// Whether some tag of these shared classes goes against what is known of its class, or they leave one without a home.
+// Whether some tag of these shared classes goes against what is noted of its class, or they leave one without a home.
 fn are_against(
     sig: &Signature,
     opened: &Opened,
     decided: &[SharedClass],
     tags: &[Option<OpId>],
 ) -> bool
-    requires heads { All (λ c. c.class < length opened.now.known.heads.items) decided.now }
+    requires labels { All (λ c. c.class < length opened.now.labels) decided.now }
     requires tags { All (λ c. c.class < length tags.now) decided.now }
     requires whole { IsWhole (length opened.now.reading.heads) opened.now.reading }
     requires bases { length opened.now.bases ≡ length opened.now.reading.sums }
     ensures { IsTrue result → IsAgainstUpTo sig.now opened.now decided.now tags.now }
 {
-    if go_against(sig, decided, opened.known.heads.as_slice(), tags) {
+    if go_against(sig, decided, opened.labels.as_slice(), tags) {
         return true;
     }
     leave_homeless(decided, tags, &opened.reading, opened.bases.as_slice())
@@ -92,25 +92,34 @@ fn is_loose(loose: &[usize], class: usize) -> bool
     loose.contains(&class)
 }
 
-// Whether the class is one of those that are known to be loose, and has a tag.
-fn is_loose_against(entry: &SharedClass, loose: &[usize], tags: &[Option<OpId>]) -> bool
-    requires { entry.now.class < length tags.now }
-    ensures { IsTrue result → IsLooseAgainst loose.now tags.now entry.now }
+// Whether the class is one of those that are known to be loose, and has a tag, though no operator is noted of it.
+fn is_loose_against(
+    entry: &SharedClass,
+    loose: &[usize],
+    labels: &[Option<OpId>],
+    tags: &[Option<OpId>],
+) -> bool
+    requires labels { entry.now.class < length labels.now }
+    requires tags { entry.now.class < length tags.now }
+    ensures { IsTrue result → IsLooseAgainst loose.now labels.now tags.now entry.now }
 {
-    match tags[entry.class] {
-        None => false,
-        Some(_) => is_loose(loose, entry.class),
+    match labels[entry.class] {
+        Some(_) => false,
+        None => match tags[entry.class] {
+            None => false,
+            Some(_) => is_loose(loose, entry.class),
+        },
     }
 }
 
-/// The first place at which the tags of the shared classes up to it go against what is known, whatever the tags of the
+/// The first place at which the tags of the shared classes up to it go against what is noted, whatever the tags of the
 /// later ones.
 pub(crate) fn first_against(
     sig: &Signature,
     opened: &Opened,
     tags: &[Option<OpId>],
 ) -> Option<usize>
-    requires heads { All (λ c. c.class < length opened.now.known.heads.items) opened.now.shared }
+    requires labels { All (λ c. c.class < length opened.now.labels) opened.now.shared }
     requires tags { All (λ c. c.class < length tags.now) opened.now.shared }
     requires whole { IsWhole (length opened.now.reading.heads) opened.now.reading }
     requires bases { length opened.now.bases ≡ length opened.now.reading.sums }
@@ -118,7 +127,12 @@ pub(crate) fn first_against(
 {
     let shared = opened.shared.as_slice();
     for place in 0..shared.len() {
-        if is_loose_against(&shared[place], opened.loose.as_slice(), tags) {
+        if is_loose_against(
+            &shared[place],
+            opened.loose.as_slice(),
+            opened.labels.as_slice(),
+            tags,
+        ) {
             return Some(place);
         }
         if are_against(sig, opened, &shared[..place + 1], tags) {

@@ -7,6 +7,7 @@ mod effort;
 mod ending;
 mod homes;
 mod kinds;
+mod labels;
 mod looking;
 mod opened;
 mod stepping;

@@ -7,11 +7,12 @@ ghost use Rattle.fvn_combine_leaves.specs.Leaves.{IsNearLeaf, IsLeaf};
 ghost use Rattle.fvn_combine_leaves.specs.Readings.{IsReading};
 ghost use Rattle.fvn_combine_choices.specs.Plans.{AreOfOneKind};
 ghost use Rattle.fvn_combine_drawing.specs.CombineCandidatesRefusals.{IsFirstRefused};
-ghost use Rattle.fvn_combine_inferring.specs.Inferred.{TellHeads};
+ghost use Rattle.fvn_combine_inferring.specs.Inferred.{TellHeads, TellLabels};
 ghost use Rattle.fvn_combine.specs.inner.Found.{IsLooked, IsLookedAt, MayPart};
 
 use crate::effort::Effort;
 use crate::kinds::are_of_one_kind;
+use crate::labels::labels_of;
 use crate::opened::{Opened, open};
 use crate::task::Task;
 use fvn_base::Seq;
@@ -60,15 +61,15 @@ fn look_at_leaf(
     task: &Task,
     state: &State,
     reading: Reading,
-    known: Known,
+    labels: Vec<Option<OpId>>,
     bases: Vec<Seq<Solution>>,
 ) -> Result<Looked, NoMemory>
-    requires leaf { IsLeaf task.now.declarations task.now.table known.heads.items state.now }
+    requires leaf { IsLeaf task.now.declarations task.now.table labels.items state.now }
     requires kinds { AreOfOneKind task.now.declarations task.now.table (class_of state.now) }
     requires reading { IsReading task.now.declarations task.now.table (class_of state.now) reading }
-    requires heads { TellHeads task.now.declarations task.now.table state.now known.sorted
-        known.heads.items }
-    requires sorted { known.sorted ≡ task.now.sorted }
+    requires labels { TellLabels task.now.declarations task.now.table state.now task.now.sorted
+        labels.items }
+    requires as_many { length labels.items ≡ length task.now.table.nodes }
     requires bases { AreBases reading.sums bases.items }
     ensures { IfOk result (IsLookedAt task.now state.now) }
 {
@@ -79,7 +80,7 @@ fn look_at_leaf(
     readings_tell();
     more_general_is_a_preorder();
     loose_classes_are_variables();
-    let leaf = open(task, state, reading, known, bases)?;
+    let leaf = open(task, state, reading, labels, bases)?;
     Ok(Looked::Leaf(leaf))
 }
 
@@ -160,16 +161,17 @@ fn look_at_bases(
     ensures { IfOk result (IsLookedAt task.now state.now) }
 {
     task.recall();
+    let labels = labels_of(task, state, &reading, &known, bases.as_slice())?;
     match question_on_touched(
         task.sig,
         &task.table,
         state,
         &reading,
-        known.heads.as_slice(),
+        labels.as_slice(),
         bases.as_slice(),
     ) {
         Some(pair) => asked(task, state, &known, pair.0, pair.1),
-        None => look_at_leaf(task, state, reading, known, bases),
+        None => look_at_leaf(task, state, reading, labels, bases),
     }
 }
 

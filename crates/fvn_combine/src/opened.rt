@@ -1,12 +1,12 @@
 //! Leaves that are open.
-ghost use Rattle.std.specs.Prelude.{◌≡◌, ◌*◌, ◌≤◌, false, [], All, IfOk};
+ghost use Rattle.std.specs.Prelude.{◌≡◌, ◌*◌, ◌≤◌, false, [], length, All, IfOk};
 ghost use Rattle.fvn_terms.specs.Substitution.{Substitution};
 ghost use Rattle.fvn_combine_nodes.specs.States.{IsClosed, class_of};
 ghost use Rattle.fvn_combine_leaves.specs.Leaves.{IsLeaf};
 ghost use Rattle.fvn_combine_leaves.specs.Readings.{IsReading};
 ghost use Rattle.fvn_combine_choices.specs.Choosing.{Choice as InChoice};
 ghost use Rattle.fvn_combine_leaves.specs.Bases.{AreBases};
-ghost use Rattle.fvn_combine_inferring.specs.Inferred.{TellHeads};
+ghost use Rattle.fvn_combine_inferring.specs.Inferred.{TellLabels};
 ghost use Rattle.fvn_combine_loose.specs.Loose.{IsLooseClass};
 ghost use Rattle.fvn_combine_loose.specs.Laws.{AreVariables};
 ghost use Rattle.fvn_combine_drawing.specs.CombineTriangularReady.{IsReady};
@@ -19,7 +19,6 @@ use fvn_base::Seq;
 use fvn_combine_drawing::{
     SharedClass, covering_choices_are_listed, option_counts, shared, sum_operators_are_few,
 };
-use fvn_combine_inferring::Known;
 use fvn_combine_leaves::Reading;
 use fvn_combine_loose::loose_classes;
 use fvn_combine_nodes::State;
@@ -39,10 +38,10 @@ impl Drop for Turning {
     }
 }
 
-/// What is read of a leaf, and its choices that are still to come.
+/// What is read of a leaf and noted of its classes, and its choices that are still to come.
 pub(crate) struct Opened {
     pub(crate) reading: Reading,
-    pub(crate) known: Known,
+    pub(crate) labels: Seq<Option<OpId>>,
     pub(crate) bases: Seq<Seq<Solution>>,
     pub(crate) shared: Seq<SharedClass>,
     pub(crate) tags: Tags,
@@ -54,7 +53,7 @@ impl Drop for Opened {
     fn drop(self) {
         let Opened {
             reading: _,
-            known: _,
+            labels: _,
             bases: _,
             shared: _,
             tags: _,
@@ -98,21 +97,21 @@ pub(crate) fn open(
     task: &Task,
     state: &State,
     reading: Reading,
-    known: Known,
+    labels: Vec<Option<OpId>>,
     bases: Vec<Seq<Solution>>,
 ) -> Result<Opened, NoMemory>
     requires ready { IsReady task.now.declarations task.now.given task.now.first task.now.table
         state.now }
-    requires leaf { IsLeaf task.now.declarations task.now.table known.heads.items state.now }
+    requires leaf { IsLeaf task.now.declarations task.now.table labels.items state.now }
     requires reading { IsReading task.now.declarations task.now.table (class_of state.now) reading }
-    requires known { TellHeads task.now.declarations task.now.table state.now known.sorted
-        known.heads.items }
-    requires sorted { known.sorted ≡ task.now.sorted }
+    requires labels { TellLabels task.now.declarations task.now.table state.now task.now.sorted
+        labels.items }
+    requires as_many { length labels.items ≡ length task.now.table.nodes }
     requires bases { AreBases reading.sums bases.items }
     ensures opened { IfOk result (IsOpened task.now state.now) }
     ensures all { IfOk result (λ o. (u : Substitution) (c : InChoice)
         → AreVariables task.now.declarations task.now.table o.loose u
-        → IsSortedCovering task.now state.now o.reading o.bases u c
+        → IsSortedCovering task.now state.now o.reading o.bases o.labels u c
         → IsCoveredToCome task.now state.now o u) }
     ensures few { IfOk result (λ o.
         leaf_left task.now o ≤ most_tags task.now * most_numbers task.now) }
@@ -134,7 +133,7 @@ pub(crate) fn open(
     let tags = Tags::new(task.alloc, counts)?;
     Ok(Opened {
         reading,
-        known,
+        labels: Seq::from_vec(labels),
         bases: Seq::from_vec(bases),
         shared: Seq::from_vec(classes),
         tags,

@@ -1,5 +1,6 @@
 //! The choices of an open leaf, one after another.
-ghost use Rattle.std.specs.Prelude.{◌≡◌, IfOk, OnErr};
+ghost use Rattle.std.specs.Prelude.{◌≡◌, List, Option, IfOk, OnErr};
+ghost use Rattle.fvn_terms.specs.declared.plain.OpId.{OpId as InOp};
 ghost use Rattle.fvn_terms.specs.Substitution.{Substitution};
 ghost use Rattle.fvn_combine_nodes.specs.States.{class_of};
 ghost use Rattle.fvn_combine_leaves.specs.Readings.{IsReading};
@@ -46,12 +47,12 @@ fn next_of_turning(
         task.now.sorted shared.now }
     requires turning { IsTurning task.now state.now reading.now bases.now shared.now turning.old }
     ensures turning { IsTurning task.now state.now reading.now bases.now shared.now turning.new }
-    ensures fewer { (u : Substitution)
-        → IsCoveredUnder task.now state.now reading.now bases.now turning.new u
-        → IsCoveredUnder task.now state.now reading.now bases.now turning.old u }
-    ensures drawn { AreDrawnFrom task.now
-        (IsCoveredUnder task.now state.now reading.now bases.now turning.old)
-        (IsCoveredUnder task.now state.now reading.now bases.now turning.new) result }
+    ensures fewer { (labels : List (Option InOp)) (u : Substitution)
+        → IsCoveredUnder task.now state.now reading.now bases.now labels turning.new u
+        → IsCoveredUnder task.now state.now reading.now bases.now labels turning.old u }
+    ensures drawn { (labels : List (Option InOp)) → AreDrawnFrom task.now
+        (IsCoveredUnder task.now state.now reading.now bases.now labels turning.old)
+        (IsCoveredUnder task.now state.now reading.now bases.now labels turning.new) result }
     ensures falls { IfOk result (LeavesLess (choices_left turning.old.wheels)
         (choices_left turning.new.wheels)) }
 {
@@ -123,7 +124,7 @@ fn next_of_current(
     }
 }
 
-// Goes on to the next tags, and answers whether there are any; those that go against what is known are passed over.
+// Goes on to the next tags, and answers whether there are any; those that go against what is noted are passed over.
 fn turn(task: &Task, state: &State, opened: &mut Opened) -> Result<bool, NoMemory>
     requires opened { IsOpened task.now state.now opened.old }
     ensures turned { IfOk result (IsTurned task.now state.now opened.old opened.new) }

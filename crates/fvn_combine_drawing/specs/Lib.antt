@@ -13,6 +13,7 @@ pub use Rattle.fvn_combine_candidates.specs.declared as CombineCandidatesDeclare
 pub use Rattle.fvn_combine_candidates.specs.Laws as CombineCandidatesLaws
 pub use Rattle.fvn_combine_triangular.specs.CombineAdmissibleListed
 pub use Rattle.fvn_combine_candidates.specs.CombineCompleteCoveringChoices
+pub use Rattle.fvn_combine_candidates.specs.CombineCompleteNeutral
 pub use Rattle.fvn_combine_candidates.specs.CombineCompleteObeying
 pub use Rattle.fvn_combine_candidates.specs.CombineCompleteLaws
 pub use Rattle.fvn_combine_candidates.specs.CombineBoundsNarrow

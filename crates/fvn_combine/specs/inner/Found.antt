@@ -54,7 +54,7 @@ IsLessLeft before after (Given g) = after < before
 -- two open leaves are the same but for the current tags
 pub record IsSameButCurrent (before after : Opened) : Type 0 where
   pub reading : after.reading ≡ before.reading
-  pub known : after.known ≡ before.known
+  pub labels : after.labels ≡ before.labels
   pub bases : after.bases ≡ before.bases
   pub shared : after.shared ≡ before.shared
   pub tags : after.tags ≡ before.tags

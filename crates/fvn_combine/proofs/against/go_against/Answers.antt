@@ -6,7 +6,7 @@ use Rattle.fvn_combine.proofs.against.go_against.Goals as goal
 
 pub is_against-requires : goal.is_against-requires
 is_against-requires c = record {
-  heads = subst (λ (e : SharedClass). e.class < length c.args.heads.now) (sym c.entry-item.is) (c.requires.heads c.loop-entry.entry-index _ c.loop-entry-test.true);
+  labels = subst (λ (e : SharedClass). e.class < length c.args.labels.now) (sym c.entry-item.is) (c.requires.labels c.loop-entry.entry-index _ c.loop-entry-test.true);
   tags = subst (λ (e : SharedClass). e.class < length c.args.tags.now) (sym c.entry-item.is) (c.requires.tags c.loop-entry.entry-index _ c.loop-entry-test.true);
 }
 

@@ -3,7 +3,7 @@ use Rattle.fvn_combine.proofs.Opening.{is_ready, covers_admitted, covers_one}
 use Rattle.fvn_combine.proofs.looking.look_at_leaf.Goals as goal
 
 pub open-requires-clause-ready : goal.open-requires-clause-ready
-open-requires-clause-ready c = is_ready c.args.task.now c.recall.ensures c.args.state.now c.args.known.heads.items c.requires.leaf c.requires.kinds
+open-requires-clause-ready c = is_ready c.args.task.now c.recall.ensures c.args.state.now c.args.labels.items c.requires.leaf c.requires.kinds
 
 pub returns : goal.returns
 returns c =

@@ -8,6 +8,8 @@ use Rattle.fvn_combine_drawing.specs.CombineCandidatesSharing.{AreSharedClasses}
 use Rattle.fvn_combine_drawing.specs.CombineCandidatesTags.{tag_counts}
 use Rattle.fvn_combine_drawing.specs.CombineCandidatesDeclared.sharing.SharedClass.{SharedClass}
 use Rattle.fvn_combine_leaves.specs.Bases.{AreBases}
+use Rattle.fvn_combine_leaves.specs.Leaves.{IsLeaf}
+use Rattle.fvn_combine_inferring.specs.Inferred.{TellLabels}
 use Rattle.fvn_combine_loose.specs.Loose.{IsLooseClass}
 use Rattle.fvn_combine.specs.Tasks.{Combining}
 use Rattle.fvn_combine.specs.Work.{most_tags, most_numbers}
@@ -32,25 +34,25 @@ returns-clause-opened c =
     let exact = subst (λ (k : Combining). AreSharedClasses k.declarations k.table (class_of s) k.sorted c.in_ok-classes.classes.items) c.task.view_is c.in_ok-classes.ensures.exact in
     record {
       ready = c.requires.ready;
-      leaf = c.requires.leaf;
+      leaf = subst (λ labels. IsLeaf k.declarations k.table labels s) (sym c.from_vec.ensures) c.requires.leaf;
       reading = c.requires.reading;
-      known = c.requires.known;
-      sorted = c.requires.sorted;
-      bases = subst (AreBases c.args.reading.sums) (sym c.from_vec.ensures) c.requires.bases;
-      shared = subst (AreSharedClasses k.declarations k.table (class_of s) k.sorted) (sym c.from_vec-2.ensures) exact;
-      counts = c.in_ok-tags.ensures.counts ∙ c.in_ok-counts.ensures ∙ ap tag_counts (c.as_slice.ensures.value ∙ sym c.from_vec-2.ensures);
+      labels = subst (TellLabels k.declarations k.table s k.sorted) (sym c.from_vec.ensures) c.requires.labels;
+      as_many = ap length c.from_vec.ensures ∙ c.requires.as_many;
+      bases = subst (AreBases c.args.reading.sums) (sym c.from_vec-2.ensures) c.requires.bases;
+      shared = subst (AreSharedClasses k.declarations k.table (class_of s) k.sorted) (sym c.from_vec-3.ensures) exact;
+      counts = c.in_ok-tags.ensures.counts ∙ c.in_ok-counts.ensures ∙ ap tag_counts (c.as_slice.ensures.value ∙ sym c.from_vec-3.ensures);
       turning = λ v e. cc;
-      loose = subst (All (IsLooseClass k.declarations k.table s)) (sym c.from_vec-3.ensures) c.in_ok-loose.ensures.loose;
-      none_loose = λ e. c.from_vec-3.ensures ∙ c.in_ok-loose.ensures.none e;
+      loose = subst (All (IsLooseClass k.declarations k.table s)) (sym c.from_vec-4.ensures) c.in_ok-loose.ensures.loose;
+      none_loose = λ e. c.from_vec-4.ensures ∙ c.in_ok-loose.ensures.none e;
     }
 
 pub returns-clause-all : goal.returns-clause-all
 returns-clause-all c =
     let classes = c.in_ok-classes.classes.items in
     let exact = subst (λ (k : Combining). AreSharedClasses k.declarations k.table (class_of c.args.state.now) k.sorted classes) c.task.view_is c.in_ok-classes.ensures.exact in
-    let counts = c.in_ok-tags.ensures.counts ∙ c.in_ok-counts.ensures ∙ ap tag_counts (c.as_slice.ensures.value ∙ sym c.from_vec-2.ensures) in
-    all_to_come c.args.task.now c.recall.ensures c.args.state.now c.args.reading c.args.known c.from_vec.result c.from_vec-2.result c.in_ok-tags.tags c.from_vec-3.result c.requires.ready c.requires.reading
-    (subst (AreSharedClasses c.args.task.now.declarations c.args.task.now.table (class_of c.args.state.now) c.args.task.now.sorted) (sym c.from_vec-2.ensures) exact)
+    let counts = c.in_ok-tags.ensures.counts ∙ c.in_ok-counts.ensures ∙ ap tag_counts (c.as_slice.ensures.value ∙ sym c.from_vec-3.ensures) in
+    all_to_come c.args.task.now c.recall.ensures c.args.state.now c.args.reading c.from_vec.result c.from_vec-2.result c.from_vec-3.result c.in_ok-tags.tags c.from_vec-4.result c.requires.ready c.requires.reading
+    (subst (AreSharedClasses c.args.task.now.declarations c.args.task.now.table (class_of c.args.state.now) c.args.task.now.sorted) (sym c.from_vec-3.ensures) exact)
     c.covering_choices_are_listed.ensures counts c.in_ok-tags.ensures.all_pending
 
 pub returns-clause-few : goal.returns-clause-few

@@ -1,5 +1,5 @@
 -- The last state makes way for its answers, and what was to come is to come in them.
-use Rattle.std.proofs.Common.{ℕ, ◌<◌, List, length, sym, subst, zero-le, None}
+use Rattle.std.proofs.Common.{◌<◌, length, sym, subst, zero-le, None}
 use Rattle.fvn_combine_tree.specs.Trees.{AreClosed, IsAsked}
 use Rattle.fvn_combine.specs.Tasks.{Combining}
 use Rattle.fvn_combine.specs.Search.{IsAdmitted, IsLeft}

@@ -1,5 +1,5 @@
 -- What is left of the last state has the nodes in one class, as all unifiers have them.
-use Rattle.std.proofs.Common.{◌≡◌, ℕ, ◌<◌, List, length, sym, subst, zero-le, None}
+use Rattle.std.proofs.Common.{◌≡◌, ℕ, ◌<◌, length, sym, subst, zero-le, None}
 use Rattle.fvn_combine_tree.specs.Trees.{AreClosed, IsTakenOn}
 use Rattle.fvn_combine.specs.Tasks.{Combining}
 use Rattle.fvn_combine.specs.Search.{IsAdmitted, IsLeft}

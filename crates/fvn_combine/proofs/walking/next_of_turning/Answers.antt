@@ -11,8 +11,8 @@ use Rattle.fvn_combine.proofs.Current.{listed, fewer_under, passed_or_to_come, s
 use Rattle.fvn_combine.proofs.walking.next_of_turning.Goals as goal
 
 pub returns-in-None-clause-drawn : goal.returns-in-None-clause-drawn
-returns-in-None-clause-drawn c = λ u h.
-    let now = c.choices.invariant.kept u h in
+returns-in-None-clause-drawn c = λ labels u h.
+    let now = c.choices.invariant.kept labels u h in
     c.in-None.ensures.exhausted.0 refl now.numbers now.pending
 
 pub draw-requires-clause-listed : goal.draw-requires-clause-listed
@@ -57,8 +57,8 @@ choices-preserved c =
     let none = subst (IsDrawnBy k.declarations k.given k.first k.size k.table s (systems_of r b) (choice_of r tags c.in-Some.numbers.now)) c.in-Nothing.is drawn in
     record {
       turning = still_turning k s r b tags old new c.advance.ensures.taken c.args.shared.now c.advance.ensures.wheels c.choices.invariant.turning;
-      fewer = λ u h. c.choices.invariant.fewer u (fewer_under k s r b tags old new c.advance.ensures.taken u h);
-      kept = λ u h. elim (passed_or_to_come k s r b tags old new c.advance.ensures.taken c.in-Some.numbers.now c.in-Some.ensures.value u (c.choices.invariant.kept u h)) [
+      fewer = λ labels u h. c.choices.invariant.fewer labels u (fewer_under k s r b tags old new c.advance.ensures.taken labels u h);
+      kept = λ labels u h. elim (passed_or_to_come k s r b tags old new c.advance.ensures.taken c.in-Some.numbers.now c.in-Some.ensures.value labels u (c.choices.invariant.kept labels u h)) [
         | inl e ↦ absurd (none u e.covering)
         | inr n ↦ n
       ];
@@ -66,7 +66,7 @@ choices-preserved c =
     }
 
 pub returns-in-Unifier-clause-fewer : goal.returns-in-Unifier-clause-fewer
-returns-in-Unifier-clause-fewer c = λ u h. c.choices.invariant.fewer u (fewer_under c.args.task.now c.args.state.now c.args.reading.now c.args.bases.now c.choices.turning.tags c.choices.turning.wheels c.advance-in-Unifier.new.self c.advance-in-Unifier.ensures.taken u h)
+returns-in-Unifier-clause-fewer c = λ labels u h. c.choices.invariant.fewer labels u (fewer_under c.args.task.now c.args.state.now c.args.reading.now c.args.bases.now c.choices.turning.tags c.choices.turning.wheels c.advance-in-Unifier.new.self c.advance-in-Unifier.ensures.taken labels u h)
 
 pub returns-in-Unifier-clause-drawn : goal.returns-in-Unifier-clause-drawn
 returns-in-Unifier-clause-drawn c =
@@ -77,9 +77,10 @@ returns-in-Unifier-clause-drawn c =
     let tags = c.choices.turning.tags in
     let drawn = subst (λ (k : Combining). IsDrawnBy k.declarations k.given k.first k.size k.table s (systems_of r b) (choice_of r tags c.in-Some.numbers.now) c.in_ok-drawn.drawn) c.task.view_is
     (subst (λ l. IsDrawnBy c.task.inside.sig.now c.task.inside.problem.now c.task.inside.first c.task.inside.size c.task.inside.table s (systems_of r b) (choice_of r l c.in-Some.numbers.now) c.in_ok-drawn.drawn) c.as_slice.ensures c.in_ok-drawn.ensures) in
-    let given = subst (IsDrawnBy k.declarations k.given k.first k.size k.table s (systems_of r b) (choice_of r tags c.in-Some.numbers.now)) c.in-Unifier.is drawn in (
+    let given = subst (IsDrawnBy k.declarations k.given k.first k.size k.table s (systems_of r b) (choice_of r tags c.in-Some.numbers.now)) c.in-Unifier.is drawn in
+    λ labels. (
       given.0,
-      λ u h. elim (passed_or_to_come k s r b tags c.choices.turning.wheels c.advance-in-Unifier.new.self c.advance-in-Unifier.ensures.taken c.in-Some.numbers.now c.in-Some.ensures.value u (c.choices.invariant.kept u h)) [
+      λ u h. elim (passed_or_to_come k s r b tags c.choices.turning.wheels c.advance-in-Unifier.new.self c.advance-in-Unifier.ensures.taken c.in-Some.numbers.now c.in-Some.ensures.value labels u (c.choices.invariant.kept labels u h)) [
         | inl e ↦ inl (given.1 u e.covering)
         | inr n ↦ inr n
       ],
@@ -104,7 +105,7 @@ returns-in-TooLarge-clause-drawn c =
     let drawn = subst (λ (k : Combining). IsDrawnBy k.declarations k.given k.first k.size k.table s (systems_of r b) (choice_of r c.choices.turning.tags c.in-Some.numbers.now) c.in_ok-drawn.drawn) c.task.view_is
     (subst (λ l. IsDrawnBy c.task.inside.sig.now c.task.inside.problem.now c.task.inside.first c.task.inside.size c.task.inside.table s (systems_of r b) (choice_of r l c.in-Some.numbers.now) c.in_ok-drawn.drawn) c.as_slice.ensures c.in_ok-drawn.ensures) in
     let large = subst (IsDrawnBy k.declarations k.given k.first k.size k.table s (systems_of r b) (choice_of r c.choices.turning.tags c.in-Some.numbers.now)) c.in-TooLarge.is drawn in
-    (large, c.choices.invariant.kept)
+    λ labels. (large, c.choices.invariant.kept labels)
 
 pub draw-requires-clause-ready : goal.draw-requires-clause-ready
 draw-requires-clause-ready c = subst (λ (k : Combining). IsReady k.declarations k.given k.first k.table c.args.state.now) (sym c.task.view_is) c.requires.ready

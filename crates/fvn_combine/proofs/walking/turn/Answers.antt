@@ -36,7 +36,7 @@ first_against-requires c =
     let o = c.args.opened.now in
     let nodes = subst (λ (k : Combining). length c.nodes.result.now ≡ length k.table.nodes) c.task.view_is (ap length c.nodes.ensures) in
     record {
-      heads = classes_within k s o c.requires.opened (length o.known.heads.items) c.requires.opened.known.as_many;
+      labels = classes_within k s o c.requires.opened (length o.labels) c.requires.opened.as_many;
       tags = classes_within k s o c.requires.opened (length c.as_slice-2.result.now) (ap length c.as_slice-2.ensures.value ∙ c.in_ok-tags.ensures.as_many ∙ nodes);
       whole = whole_of k s o c.requires.opened c.recall.ensures;
       bases = c.requires.opened.bases.as_many;
