@@ -1,11 +1,11 @@
 -- Values that go with a leaf, and operators that are noted, and tags, which they obey.
-use Rattle.std.specs.Prelude.{◌≡◌, ◌≢◌, ◌⊎◌, ℕ, ◌<◌, true, List, length, Option, Some}
+use Rattle.std.specs.Prelude.{◌≡◌, ◌≢◌, ◌⊎◌, ℕ, ◌<◌, true, List, [], ◌∷◌, length, Option, Some}
 use Rattle.fvn_terms.specs.declared.plain.OpId.{OpId}
 use Rattle.fvn_terms.specs.declared.declarations.Declarations.{Declarations}
 use Rattle.fvn_terms.specs.Signature.{axioms}
 use Rattle.fvn_terms.specs.Equality.{identity}
 use Rattle.fvn_forms.specs.Flat.{FlatTerm, FlatTerms, fapp, fconstant}
-use Rattle.fvn_combine_nodes.specs.Table.{NodeTable}
+use Rattle.fvn_combine_nodes.specs.Table.{NodeTable, IsOver}
 use Rattle.fvn_combine_nodes.specs.States.{class_of, is_apart}
 use Rattle.fvn_combine_nodes.specs.declared.state.State.{State}
 use Rattle.fvn_combine_systems.specs.Values.{AreValues}
@@ -51,19 +51,31 @@ ObeyHeads d t s heads values = (k : ℕ) (f : OpId) → k < length t.nodes → I
     → IsSumOf f (values k) ⊎ IsLabel d t s heads f k (values k)
 
 module _ (d : Declarations) (t : NodeTable) (class : ℕ → ℕ) (tag : ℕ → Option OpId) (values : ℕ → FlatTerm) where
-  -- Class k is taken as a sum of f, though its value is one summand: no operator that uses the class makes it a sum. The identity of f leaves
-  -- sorts alone, a minimal solution without a constant has the class, and shared constants that are in a solution with it differ.
-  pub record IsTakenAsSum (f : OpId) (k : ℕ) : Type 0 where
-    pub neutral : IsNeutral d f
-    pub one : (g : OpId) → Uses d t class g k → IsSumOrIdentityOf d g (values k) → ⊥
+  -- a minimal solution of f's sum system has class z, and no constant of f
+  pub record IsBare (f : OpId) (z : ℕ) : Type 0 where
     pub columns : List ℕ
     pub system : System
     pub is : IsNodeSystem t class f columns system
     pub solution : List ℕ
     pub minimal : IsMinimal system.columns (rows_of system) solution
-    pub has : 0 < component columns solution k
+    pub has : 0 < component columns solution z
     pub free : (l : ℕ) → IsConstant d t class tag f l → component columns solution l ≡ 0
-    pub differ : (l : ℕ) → IsConstant d t class tag f l → IsShared d t class l → AreTouched d t class f k l → values l ≢ values k
+
+  -- Class k is taken as a sum of f, though its value is one summand: no operator that uses the class makes it a sum. The identity of f leaves
+  -- sorts alone, f heads a member, and each class that it adds is a constant, or a minimal solution without a constant has it. A shared constant
+  -- that is in a minimal solution with k, and is taken as a sum too, differs.
+  pub record IsTakenAsSum (f : OpId) (k : ℕ) : Type 0 where
+    pub neutral : IsNeutral d f
+    pub one : (g : OpId) → Uses d t class g k → IsSumOrIdentityOf d g (values k) → ⊥
+    pub member : ℕ
+    pub left : ℕ
+    pub right : ℕ
+    pub over : IsOver t.nodes member f (left ∷ right ∷ [])
+    pub of : class member ≡ k
+    pub left_taken : IsConstant d t class tag f (class left) ⊎ IsBare f (class left)
+    pub right_taken : IsConstant d t class tag f (class right) ⊎ IsBare f (class right)
+    pub differ : (l : ℕ) (g : OpId) → IsConstant d t class tag f l → IsShared d t class l → tag l ≡ Some g → (IsSumOrIdentityOf d g (values l) → ⊥)
+        → AreTouched d t class f k l → values l ≢ values k
 
   -- f is the tag of class k where the value is a sum of it, or its identity; and where it is the tag, this holds, or the class is taken as a sum
   pub record ObeysTag (k : ℕ) (f : OpId) : Type 0 where

@@ -1,5 +1,5 @@
 -- Leaves: states in which nothing is open that decides what classes are bound to.
-use Rattle.std.specs.Prelude.{◌≡◌, ◌≢◌, ◌⊎◌, ℕ, ◌<◌, pos, List, length, slice_get, slice_index_or, Option, Some, None, Contains}
+use Rattle.std.specs.Prelude.{◌≡◌, ◌≢◌, ◌⊎◌, ℕ, ◌<◌, pos, List, [], ◌∷◌, length, slice_get, slice_index_or, Option, Some, None, Contains}
 use Rattle.fvn_terms.specs.declared.plain.OpId.{OpId}
 use Rattle.fvn_terms.specs.declared.declarations.Declarations.{Declarations}
 use Rattle.fvn_terms.specs.Signature.{axioms}
@@ -105,20 +105,30 @@ module _ (d : Declarations) (t : NodeTable) where
     pub noted : slice_index_or heads k None ≡ Some f
     pub some : HasNoIdentity (axioms d f) → ⊥
 
-  -- The shared class k has room for f: a minimal solution of f's sum system has it, and no class that may be a constant, but shared ones that are
-  -- noted as sums of f. So the class may be a sum of f with another summand than the ones that it shares with constants.
-  pub record HasRoom (heads : List (Option OpId)) (s : State) (f : OpId) (k : ℕ) : Type 0 where
-    pub shared : IsShared (class_of s) k
+  -- Class z has space for f: a minimal solution of f's sum system has it, and no other class that may be a constant, but shared ones that
+  -- are noted as sums of f. So z is a constant, or a choice may take a solution without a constant that has it.
+  pub record HasSpace (heads : List (Option OpId)) (s : State) (f : OpId) (z : ℕ) : Type 0 where
     pub columns : List ℕ
     pub system : System
     pub is : IsNodeSystem t (class_of s) f columns system
     pub solution : List ℕ
     pub minimal : IsMinimal system.columns (rows_of system) solution
-    pub has : 0 < component columns solution k
-    pub free : (l : ℕ) → 0 < component columns solution l → MayBeConstant (class_of s) f l → IsShared (class_of s) l × IsNotedSum heads f l
-    -- of each other shared class that may be a constant of f, is not noted as a sum of it, and is in a minimal solution with k, it is told that it differs
-    pub told : (l : ℕ) → l ≢ k → IsShared (class_of s) l → MayBeConstant (class_of s) f l → (IsNotedSum heads f l → ⊥)
-        → AreTouched (class_of s) f k l → AreTold s k l
+    pub has : 0 < component columns solution z
+    pub free : (l : ℕ) → l ≢ z → 0 < component columns solution l → MayBeConstant (class_of s) f l → IsShared (class_of s) l × IsNotedSum heads f l
+
+  -- The shared class k has room for f: f heads a member, and each of the two classes that it adds is a single summand for sure, or has space.
+  -- So a choice may take two members for k, whatever it is a sum of.
+  pub record HasRoom (heads : List (Option OpId)) (s : State) (f : OpId) (k : ℕ) : Type 0 where
+    pub shared : IsShared (class_of s) k
+    pub member : ℕ
+    pub left : ℕ
+    pub right : ℕ
+    pub over : IsOver t.nodes member f (left ∷ right ∷ [])
+    pub of : class_of s member ≡ k
+    pub left_space : IsSingle (class_of s) f (class_of s left) ⊎ HasSpace heads s f (class_of s left)
+    pub right_space : IsSingle (class_of s) f (class_of s right) ⊎ HasSpace heads s f (class_of s right)
+    -- of each other shared class of which another operator is noted, and that is in a minimal solution with k, it is told that it differs
+    pub told : (l : ℕ) (g : OpId) → l ≢ k → g ≢ f → IsShared (class_of s) l → IsNotedSum heads g l → AreTouched (class_of s) f k l → AreTold s k l
 
   -- an operator that labels note of a class is noted by heads, or is a candidate for which the class has room
   abbrev pub AreLabels : State → (heads candidates labels : List (Option OpId)) → Type 0
