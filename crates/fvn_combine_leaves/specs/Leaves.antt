@@ -95,15 +95,28 @@ module _ (d : Declarations) (t : NodeTable) where
   abbrev pub AreTold : State → ℕ → ℕ → Type 0
   AreTold s k l = HaveTwoHeads (class_of s) k l ⊎ (IsOpen s k l → ⊥)
 
-  -- a solution for f, one part a column, may stand for a summand: of no two classes that are single summands, and that it has, is it told that they differ
-  abbrev pub IsLive : State → OpId → (columns solution : List ℕ) → Type 0
-  IsLive s f columns solution = (k l : ℕ) → k ≢ l → IsSingle (class_of s) f k → IsSingle (class_of s) f l
-      → 0 < component columns solution k → 0 < component columns solution l → AreTold s k l → ⊥
-
   -- f, which has an identity, is noted of class k: the class is taken as a sum by it
   pub record IsNotedSum (heads : List (Option OpId)) (f : OpId) (k : ℕ) : Type 0 where
     pub noted : slice_index_or heads k None ≡ Some f
     pub some : HasNoIdentity (axioms d f) → ⊥
+
+  -- another operator than f, which uses the shared class k too, is noted of it: its value is one summand in the sums of f
+  pub record IsNotedOther (heads : List (Option OpId)) (class : ℕ → ℕ) (f : OpId) (k : ℕ) : Type 0 where
+    pub shared : IsShared class k
+    pub used : Uses class f k
+    pub operator : OpId
+    pub other : operator ≢ f
+    pub uses : Uses class operator k
+    pub noted : IsNotedSum heads operator k
+
+  -- class k is a single summand in the sums of f, by a head without an identity, or by what is noted
+  abbrev pub IsOneSummand : List (Option OpId) → (ℕ → ℕ) → OpId → ℕ → Type 0
+  IsOneSummand heads class f k = IsSingle class f k ⊎ IsNotedOther heads class f k
+
+  -- a solution for f, one part a column, may stand for a summand: of no two classes that are single summands, and that it has, is it told that they differ
+  abbrev pub IsLive : List (Option OpId) → State → OpId → (columns solution : List ℕ) → Type 0
+  IsLive heads s f columns solution = (k l : ℕ) → k ≢ l → IsOneSummand heads (class_of s) f k → IsOneSummand heads (class_of s) f l
+      → 0 < component columns solution k → 0 < component columns solution l → AreTold s k l → ⊥
 
   -- Class z has space for f: a minimal solution of f's sum system has it, and no other class that may be a constant, but shared ones that
   -- are noted as sums of f. So z is a constant, or a choice may take a solution without a constant that has it.
@@ -145,7 +158,7 @@ module _ (d : Declarations) (t : NodeTable) where
     -- that may stand for a summand has both
     pub constants : (f : OpId) (k l : ℕ) → MayBeConstant (class_of s) f k → MayBeConstant (class_of s) f l
         → (IsNotedSum heads f k → ⊥) → (IsNotedSum heads f l → ⊥)
-        → (both : AreTouched (class_of s) f k l) → IsLive s f both.columns both.solution → AreTold s k l
+        → (both : AreTouched (class_of s) f k l) → IsLive heads s f both.columns both.solution → AreTold s k l
 
   -- The same, whatever heads are known and the minimal solutions are.
   pub record IsFullLeaf (s : State) : Type 0 where
