@@ -105,12 +105,12 @@ abbrev pub IsRoom : NodeTable → State → Reading → (labels : List (Option O
 IsRoom t s r labels e basis k = StandsApart r e labels s basis k × HasMember t s e.operator k (HasSpaceIn r e labels basis)
 
 -- class k has room for f, by the columns and the solutions of this
-pub record HasRoomIn (r : Reading) (bases : List (List Solution)) (room : Sums → List Solution → ℕ → Type 0) (f : OpId) (k : ℕ) : Type 0 where
+pub record HasRoomIn (r : Reading) (bases : List (List Solution)) (is_room : Sums → List Solution → ℕ → Type 0) (f : OpId) (k : ℕ) : Type 0 where
   pub place : ℕ
   pub entry : Sums
   pub at : slice_get r.sums place ≡ Some entry
   pub operator : entry.operator ≡ f
-  pub room : room entry (slice_index_or bases place []) k
+  pub room : is_room entry (slice_index_or bases place []) k
 
 -- f has an identity, and class k has room for it
 abbrev pub IsRoomFor : Declarations → (room : OpId → ℕ → Type 0) → OpId → ℕ → Type 0

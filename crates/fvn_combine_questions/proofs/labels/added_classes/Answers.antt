@@ -1,6 +1,6 @@
 -- A member, with its arguments.
-use Rattle.std.proofs.Common.{length, All, sym, ap, ◌∙◌, subst, Some}
-use Rattle.std.proofs.lemmas.Bool.{not-false, eqb-true}
+use Rattle.std.proofs.Common.{◌<◌, length, All, sym, ap, ◌∙◌, subst, Some}
+use Rattle.std.proofs.lemmas.Bool.{not-false}
 use Rattle.fvn_forms.proofs.Sums.{same_op_is}
 use Rattle.fvn_combine_nodes.proofs.Nodes.{arguments_within}
 use Rattle.fvn_combine_questions.proofs.Labelled.{member_from}
@@ -15,5 +15,5 @@ pub returns-else-ne : goal.returns-else-ne
 returns-else-ne c =
     member_from c.args.table.now c.args.state.now c.args.f c.args.k c.args.i c.in-App.ks c.in-App.g
     (c.node.ensures ∙ ap Some c.in-App.is) (same_op_is c.in-App.g c.args.f (not-false _ (sym c.if-ne.ensures)))
-    (sym c.class_of.ensures ∙ c.if-ne.false)
+    (sym c.class_of.ensures ∙ c.if-class_of-k.false)
     c.as_slice.result.now c.as_slice.ensures c.two_classes.result c.two_classes.ensures

@@ -1,5 +1,5 @@
 -- Two nodes.
-use Rattle.std.proofs.Common.{refl, get_or, sym, ◌∙◌}
+use Rattle.std.proofs.Common.{get_or, sym}
 use Rattle.fvn_combine_nodes.proofs.Lists.{two_items}
 use Rattle.fvn_combine_questions.proofs.labels.two_classes.Goals as goal
 
