@@ -13,7 +13,8 @@ use Rattle.fvn_terms.specs.declared.declarations.Axioms.TheVariants.{Free, Comm,
 use Rattle.fvn_terms.specs.declared.declarations.Declarations.{Declarations}
 use Rattle.fvn_terms.specs.Signature.{axioms}
 use Rattle.fvn_terms.specs.Equality.{IsAssociative, identity}
-use Rattle.fvn_forms.specs.Flat.{FlatTerm}
+use Rattle.fvn_forms.specs.Flat.{FlatTerm, fvar, fapp, fnone, fmore}
+use Rattle.fvn_flat.specs.Forms.{head_of}
 use Rattle.fvn_flat.specs.Partitions.{HasNoIdentity}
 use Rattle.fvn_combine_nodes.specs.Table.{NodeTable, IsWellMade}
 use Rattle.fvn_combine_nodes.specs.States.{class_of}
@@ -25,7 +26,7 @@ use Rattle.fvn_combine_leaves.specs.Leaves.{IsSumOperator, IsSolid, Uses, IsShar
 use Rattle.fvn_combine_choices.specs.Binding.{IsBound, solid, alone, tagged, IsConstant, IsRequired, AreAsked}
 use Rattle.fvn_combine_choices.specs.Choosing.{Systems, AreSystems}
 use Rattle.fvn_combine_choices.specs.Tables.{HasSums}
-use Rattle.fvn_combine_complete.specs.Obeying.{IsTold, GoWith, ObeyTags}
+use Rattle.fvn_combine_complete.specs.Obeying.{IsTold, GoWith, IsSumOrIdentityOf, ObeyTags}
 use Rattle.fvn_combine_complete.proofs.Identities.{operator_told, unit_at}
 use Rattle.fvn_combine_complete.proofs.Values.{head_of_solid, bound_used}
 
@@ -106,6 +107,37 @@ tag_told (Some g) f = elim (operator_told g f) [
   | inl e ↦ inl (ap Some e)
   | inr n ↦ inr (λ e. n (Some-injective e))
 ]
+
+-- 0 of a variable, 1 of a sum, 2 of a constant, and else 3
+abbrev shape : FlatTerm → ℕ
+shape (fvar x) = 0
+shape (fapp o true ts) = 1
+shape (fapp o false fnone) = 2
+shape (fapp o false (fmore t ts)) = 3
+
+-- whether a value is a sum of an operator, or its identity
+module _ (d : Declarations) (g : OpId) where
+  by_shape : (v : FlatTerm) → (shape v ≡ 1 → ⊥) → (shape v ≡ 2 → ⊥) → IsSumOrIdentityOf d g v → ⊥
+  by_shape v no_sum no_identity (inl sum) = no_sum (ap shape sum.1)
+  by_shape v no_sum no_identity (inr unit) = no_identity (ap shape unit.2)
+
+  pub sum_or_identity_told : (v : FlatTerm) → Decided (IsSumOrIdentityOf d g v)
+  sum_or_identity_told (fvar x) = inr (by_shape (fvar x) (λ e. omega (arith, e)) (λ e. omega (arith, e)))
+  sum_or_identity_told (fapp o true ts) = elim (operator_told o g) [
+    | inl same ↦ inl (inl (ts, ap (λ p. fapp p true ts) same))
+    | inr n ↦ inr (λ h. elim h [
+      | inl sum ↦ (let e : Some o ≡ Some g = ap head_of sum.1 in n (Some-injective e))
+      | inr unit ↦ (let e = ap shape unit.2 in omega (arith, e))
+    ])
+  ]
+  sum_or_identity_told (fapp e false fnone) = elim (tag_told (identity (axioms d g)) e) [
+    | inl i ↦ inl (inr (e, i, refl))
+    | inr n ↦ inr (λ h. elim h [
+      | inl sum ↦ (let s = ap shape sum.1 in omega (arith, s))
+      | inr unit ↦ (let s : Some e ≡ Some unit.0 = ap head_of unit.2 in n (unit.1 ∙ sym s))
+    ])
+  ]
+  sum_or_identity_told (fapp o false (fmore t ts)) = inr (by_shape (fapp o false (fmore t ts)) (λ e. omega (arith, e)) (λ e. omega (arith, e)))
 
 -- axioms have no identity, or one
 pub bare_told : (a : Axioms) → HasNoIdentity a ⊎ ((e : OpId) × (identity a ≡ Some e))

@@ -1,35 +1,37 @@
 -- Minimal solutions that values choose are acceptable, and the values are made of their pieces.
-use Rattle.std.proofs.Common.{◌≡◌, ◌≢◌, ℕ, zero, suc, ◌<◌, ◌≤◌, ◌^◌, true, List, [], ◌∷◌, length, get_or, sym, ap, ◌∙◌, subst, inl, inr, arith, All, Contains, Option, pos, slice_get, sum_by}
+use Rattle.std.proofs.Common.{◌≡◌, ◌⊎◌, ℕ, zero, suc, ◌+◌, ◌<◌, ◌≤◌, ◌^◌, true, List, [], ◌∷◌, length, map, get_or, sym, ap, ◌∙◌, subst, inl, inr, arith, All, Contains, Option, Some, pos, slice_get, sum_by}
 use Rattle.std.specs.Prelude.{Bool, ◌↔◌}
 use Rattle.std.proofs.lemmas.Bool.{cases_eq, or_cases}
 use Rattle.std.proofs.lemmas.List.{get_or-map, get_or_default}
 use Rattle.std.proofs.lemmas.List.Sums.{sum_by-cons}
 use Rattle.std.proofs.lemmas.List.Elements.{All-map, All-contains, Contains-get_or}
-use Rattle.fvn_base.proofs.Membership.{contains_here}
+use Rattle.fvn_base.proofs.Membership.{contains_here, contains_later, contains_map}
 use Rattle.fvn_terms.specs.declared.plain.OpId.{OpId}
 use Rattle.fvn_terms.specs.declared.declarations.Declarations.{Declarations}
 use Rattle.fvn_forms.specs.Flat.{FlatTerm}
 use Rattle.fvn_forms.specs.InOrder.{count, SameCounts}
 use Rattle.fvn_forms.specs.Canon.{parts}
-use Rattle.fvn_lindio.specs.Systems.{IsMinimal, IsUnused, rows_of}
+use Rattle.fvn_lindio.specs.Systems.{IsZeroAt, IsMinimal, IsUnused, rows_of}
 use Rattle.fvn_acunify.specs.ValidChoice.{chosen, column_sum, touched}
 use Rattle.fvn_flat.specs.SolvedLists.{component}
-use Rattle.fvn_combine_nodes.specs.Table.{NodeTable, IsWellMade}
+use Rattle.fvn_combine_nodes.specs.Table.{NodeTable, IsWellMade, IsOver}
 use Rattle.fvn_combine_nodes.specs.States.{class_of}
 use Rattle.fvn_combine_nodes.specs.declared.state.State.{State}
 use Rattle.fvn_combine_systems.specs.NodeSystems.{addends, sums, coefficient, row_at, IsNodeSystem}
 use Rattle.fvn_combine_systems.proofs.Carrying.{carry, carried, minimal_carried}
+use Rattle.fvn_combine_systems.proofs.Members.{over_addends, listed_sum}
+use Rattle.fvn_combine_systems.proofs.Weighing.{zero_row}
 use Rattle.fvn_combine_systems.proofs.Zeroes.{zero_told}
 use Rattle.fvn_combine_supports.specs.Laws.{MadeUpByTaken}
 use Rattle.fvn_combine_supports.specs.Pieces.{has_some, number_of, taken as with_pieces}
 use Rattle.fvn_combine_leaves.specs.Leaves.{IsLeaf, IsSumOperator, Uses, IsShared}
 use Rattle.fvn_combine_choices.specs.Binding.{IsBound, IsConstant, IsRequired, AreAsked}
 use Rattle.fvn_combine_choices.specs.Choosing.{Systems, Choice, AreSystems, AreTakenTogether, IsAcceptable, taken, member_count}
-use Rattle.fvn_combine_choices.proofs.Columns.{two_of_sum}
+use Rattle.fvn_combine_choices.proofs.Columns.{one_of_sum, chosen_listed}
 use Rattle.fvn_combine_complete.specs.Laws.{IsChosen, NoAliases}
 use Rattle.fvn_combine_complete.specs.LaidOut.{laid_for}
 use Rattle.fvn_combine_choices.specs.Tables.{HasSums}
-use Rattle.fvn_combine_complete.specs.Obeying.{IsTold, GoWith, ObeyHeads, ObeyTags, TagsFollow, IsTakenAsSum}
+use Rattle.fvn_combine_complete.specs.Obeying.{IsTold, GoWith, ObeyHeads, ObeyTags, TagsFollow, IsBare, IsTakenAsSum}
 use Rattle.fvn_combine_complete.specs.Obeyed.{IsSummand, AreMadeOf}
 use Rattle.fvn_combine_complete.proofs.Aliases.{laid_out_are}
 use Rattle.fvn_combine_complete.proofs.Asked.{uses_told}
@@ -46,6 +48,17 @@ some_component : (v : List ℕ) → 0 < sum_by (λ a. a) v → (j : ℕ) × (j <
 some_component [] h = absurd (omega (arith, h))
 some_component (zero ∷ v) h = let r = some_component v (let e = sum_by-cons (λ a. a) 0 v in omega (arith, h, e)) in (suc r.0, (let l = r.1 in omega (arith, l)), r.2)
 some_component (suc n ∷ v) h = (0, omega arith, omega arith)
+
+-- what is added up of sums is the sum of what is added up
+counts_add : (g a b : List ℕ → ℕ) (vs : List (List ℕ)) → ((v : List ℕ) → Contains vs v → g v ≡ a v + b v) → sum_by g vs ≡ sum_by a vs + sum_by b vs
+counts_add g a b [] h = omega arith
+counts_add g a b (v ∷ vs) h =
+    let first = h v (contains_here v vs) in
+    let rest = counts_add g a b vs (λ w m. h w (contains_later v vs w m)) in
+    let n = sum_by-cons g v vs in
+    let p = sum_by-cons a v vs in
+    let q = sum_by-cons b v vs in
+    omega (arith, first, rest, n, p, q)
 
 module _ (d : Declarations) (t : NodeTable) (made : IsWellMade t) (has : HasSums d t) (s : State) {heads : List (Option OpId)} (leaf : IsLeaf d t heads s) (told : IsTold d t (class_of s)) (values : ℕ → FlatTerm) (go_with : GoWith d t s values) (obey_heads : ObeyHeads d t s heads values) (y : Systems) (systems : AreSystems d t (class_of s) y) (c : Choice) (obey : ObeyTags d t (class_of s) c.tag values) (follow : TagsFollow d t (class_of s) c.tag values heads)
     (f : OpId) (sum : IsSumOperator d t f) (constants : List ℕ) (may_be_zero : List Bool) (are_asked : AreAsked d t (class_of s) c.tag f (y.columns f) constants may_be_zero) (ch : IsChosen d f values (y.columns f) (y.system f) (y.basis f) constants may_be_zero) (also : List ℕ → Bool) (marks : List Bool) (are : AreMarks also marks ch.pieces (y.basis f)) (number : c.number f ≡ number_by marks)
@@ -183,21 +196,52 @@ module _ (d : Declarations) (t : NodeTable) (made : IsWellMade t) (has : HasSums
   pieces_sum : (j : ℕ) → column_sum j (chosen (number_of ch.pieces) (y.basis f)) ≡ column_sum j (with_pieces ch.pieces (y.basis f))
   pieces_sum j = ap (column_sum j) (law (y.system f).columns (y.basis f) sized ch.counted ch.pieces ch.made_up).0
 
-  -- where a class is taken as a sum, a solution without a constant that has it is taken beside the one with a constant
-  with_bare : (k l : ℕ) → IsTakenAsSum d t class c.tag values f k → IsConstant d t class c.tag f l → AreTakenTogether d t class y c f k l → 2 ≤ member_count y c f k
-  with_bare k l as_sum h together =
-      let w = carry as_sum.columns (y.columns f) as_sum.solution in
-      let kept = carried t class f as_sum.columns (y.columns f) as_sum.system (y.system f) as_sum.is is_node_system as_sum.solution in
-      let minimal = minimal_carried t class f as_sum.columns (y.columns f) as_sum.system (y.system f) as_sum.is is_node_system as_sum.solution as_sum.minimal in
-      let none = (bare_is d t class c.tag f (y.columns f) is_node_system.distinct (λ j m. (is_node_system.exact j).1 m.used.column) constants may_be_zero are_asked w).1 (λ j m. kept j ∙ as_sum.free j m) in
-      let among : Contains (taken y c f) w = subst (λ vs. Contains vs w) (sym taken_is) (passing_marked also marks ch.pieces (y.basis f) are w ((exact w).1 minimal) (passes as_sum.neutral w none)) in
-      let zero_of = kept l ∙ as_sum.free l h in
-      let differ : together.solution ≢ w = λ e. (let m = ap (λ v. component (y.columns f) v l) e in let q = together.right in omega (arith, m, q, zero_of)) in
-      let two = two_of_sum (λ v. component (y.columns f) v k) (taken y c f) together.solution w together.among among differ in
-      let p = together.left in
-      let has = as_sum.has in
-      let same = kept k in
-      omega (arith, two, p, has, same)
+  constant_counted : (k : ℕ) → IsConstant d t class c.tag f k → member_count y c f k ≡ 1
+  constant_counted k h =
+      let a = at k h.used in
+      let listed = (are_asked.are_constant a.column).1 (a.within, subst (IsConstant d t class c.tag f) (sym a.of) h) in
+      counted k h.used
+      ∙ sums_stay also a.column (λ v passes. touched_none constants v (bare v passes) a.column listed) marks ch.pieces (y.basis f) are
+      ∙ sym (pieces_sum a.column)
+      ∙ All-contains (λ j. column_sum j (chosen (number_of ch.pieces) (y.basis f)) ≡ 1) constants a.column ch.valid.once listed
+
+  -- a minimal solution without a constant is taken
+  bare_counted : IsNeutral d f → (z : ℕ) → IsBare d t class c.tag values f z → 1 ≤ member_count y c f z
+  bare_counted neutral z one =
+      let w = carry one.columns (y.columns f) one.solution in
+      let kept = carried t class f one.columns (y.columns f) one.system (y.system f) one.is is_node_system one.solution in
+      let minimal = minimal_carried t class f one.columns (y.columns f) one.system (y.system f) one.is is_node_system one.solution one.minimal in
+      let none = (bare_is d t class c.tag f (y.columns f) is_node_system.distinct (λ j m. (is_node_system.exact j).1 m.used.column) constants may_be_zero are_asked w).1 (λ j m. kept j ∙ one.free j m) in
+      let among : Contains (taken y c f) w = subst (λ vs. Contains vs w) (sym taken_is) (passing_marked also marks ch.pieces (y.basis f) are w ((exact w).1 minimal) (passes neutral w none)) in
+      let much = one_of_sum (λ v. component (y.columns f) v z) (taken y c f) w among in
+      let has = one.has in
+      let same = kept z in
+      omega (arith, much, has, same)
+
+  added_counted : IsNeutral d f → (z : ℕ) → IsConstant d t class c.tag f z ⊎ IsBare d t class c.tag values f z → 1 ≤ member_count y c f z
+  added_counted neutral z (inl h) = let n = constant_counted z h in omega (arith, n)
+  added_counted neutral z (inr one) = bare_counted neutral z one
+
+  -- a solution has the class of a sum as often as the classes of the two that it adds
+  adds_up : (i a b : ℕ) → IsOver t.nodes i f (a ∷ b ∷ []) → (v : List ℕ) → Contains (taken y c f) v → component (y.columns f) v (class i) ≡ component (y.columns f) v (class a) + component (y.columns f) v (class b)
+  adds_up i a b over v among =
+      let minimal = (exact v).0 (chosen_listed (c.number f) (y.basis f) v among) in
+      let row = row_at t class f (y.columns f) in
+      let listed = listed_sum t f i (a ∷ b ∷ []) (has.pairs i f (a ∷ b ∷ []) over sum.associative).1 over in
+      let zero_rows = subst (All (IsZeroAt v)) is_node_system.rows minimal.solves.zero_rows in
+      let at_row = All-contains (IsZeroAt v) (map row (sums t f)) (row i) zero_rows (contains_map row (sums t f) i listed) in
+      let two : addends f (slice_get t.nodes i) ≡ Some (a, b) = ap (addends f) over ∙ over_addends f a b in
+      sym ((zero_row (y.columns f) v is_node_system.distinct (class a) (class b) (class i)).0 (subst (λ o. IsZeroAt v (map (coefficient class i o) (y.columns f))) two at_row))
+
+  -- a class that is taken as a sum has two members, those of the two that are added
+  added_two : (k : ℕ) → IsTakenAsSum d t class c.tag values f k → 2 ≤ member_count y c f k
+  added_two k as_sum =
+      let count = λ (n : ℕ) (v : List ℕ). component (y.columns f) v (class n) in
+      let both = counts_add (count as_sum.member) (count as_sum.left) (count as_sum.right) (taken y c f) (adds_up as_sum.member as_sum.left as_sum.right as_sum.over) in
+      let of = ap (member_count y c f) as_sum.of in
+      let one = added_counted as_sum.neutral (class as_sum.left) as_sum.left_taken in
+      let other = added_counted as_sum.neutral (class as_sum.right) as_sum.right_taken in
+      omega (arith, both, of, one, other)
 
   -- a shared class is no sum of a constant alone
   not_alone : NoAliases → (k l : ℕ) → IsShared d t class k → IsBound d t class c.tag f k → IsConstant d t class c.tag f l → AreTakenTogether d t class y c f k l → 2 ≤ member_count y c f k
@@ -227,7 +271,7 @@ module _ (d : Declarations) (t : NodeTable) (made : IsWellMade t) (has : HasSums
             let few = pieces_sum a.column in
             let grow = sums_grow also a.column marks ch.pieces (y.basis f) are in
             omega (arith, count, sums, few, grow))
-        | inr as_sum ↦ with_bare k l as_sum h together
+        | inr as_sum ↦ added_two k as_sum
       ]
 
   -- constants of one solution that is taken have one value
@@ -262,13 +306,7 @@ module _ (d : Declarations) (t : NodeTable) (made : IsWellMade t) (has : HasSums
   pub acceptable : NoAliases → IsAcceptable d t class y c f
   acceptable aliases = record {
     within = let w = number_small marks in let n = ap (λ n. 2 ^ n) (marks_long also marks ch.pieces (y.basis f) are) in omega (arith, w, n, number);
-    once = λ k h.
-        let a = at k h.used in
-        let listed = (are_asked.are_constant a.column).1 (a.within, subst (IsConstant d t class c.tag f) (sym a.of) h) in
-        counted k h.used
-        ∙ sums_stay also a.column (λ v passes. touched_none constants v (bare v passes) a.column listed) marks ch.pieces (y.basis f) are
-        ∙ sym (pieces_sum a.column)
-        ∙ All-contains (λ j. column_sum j (chosen (number_of ch.pieces) (y.basis f)) ≡ 1) constants a.column ch.valid.once listed;
+    once = constant_counted;
     apart = constants_apart;
     filled = λ k h.
         let u = bound_used d t made has s leaf told values go_with c.tag obey f k h.bound in

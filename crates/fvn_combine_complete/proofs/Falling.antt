@@ -1,8 +1,9 @@
 -- Where values obey a choice, a class needs only classes of a lower rank.
-use Rattle.std.proofs.Common.{◌≡◌, ◌≢◌, ◌⊎◌, ℕ, ◌+◌, ◌*◌, ◌<◌, ◌≤◌, false, List, [], ◌∷◌, length, map, get_or, refl, sym, ap, ◌∙◌, subst, inl, inr, arith, Contains, Option}
+use Rattle.std.proofs.Common.{◌≡◌, ◌≢◌, ◌⊎◌, ℕ, ◌+◌, ◌*◌, ◌<◌, ◌≤◌, false, List, [], ◌∷◌, length, map, get_or, refl, sym, ap, ◌∙◌, subst, inl, inr, arith, Contains, Option, Some, None}
 use Rattle.std.specs.List.{AllByRecursion}
 use Rattle.std.proofs.lemmas.Bool.{cases_lt}
 use Rattle.std.proofs.lemmas.List.{get_or_default}
+use Rattle.fvn_base.specs.Decided.{Decided}
 use Rattle.fvn_base.proofs.Membership.{contains_here, contains_cases, contains_none, contains_map}
 use Rattle.fvn_terms.specs.declared.plain.OpId.{OpId}
 use Rattle.fvn_terms.specs.declared.declarations.Axioms.{Axioms}
@@ -22,10 +23,11 @@ use Rattle.fvn_combine_leaves.specs.Leaves.{IsLeaf, IsSumOperator, IsSolid, Uses
 use Rattle.fvn_combine_choices.specs.Binding.{IsBound, solid, alone, tagged, IsConstant}
 use Rattle.fvn_combine_choices.specs.Choosing.{Systems, Choice, AreSystems, AreTakenTogether, argument, summand, Falls, taken}
 use Rattle.fvn_combine_choices.specs.Tables.{HasSums}
-use Rattle.fvn_combine_complete.specs.Obeying.{IsTold, GoWith, IsTakenAsSum}
+use Rattle.fvn_combine_complete.specs.Obeying.{IsTold, GoWith, IsSumOrIdentityOf, IsTakenAsSum}
 use Rattle.fvn_combine_complete.specs.Obeyed.{AreObeying}
 use Rattle.fvn_combine_nodes.proofs.Heading.{build_free, build_commutative}
 use Rattle.fvn_combine_choices.proofs.Columns.{chosen_listed}
+use Rattle.fvn_combine_complete.proofs.Asked.{sum_or_identity_told}
 use Rattle.fvn_combine_complete.proofs.Taken.{laid_counts, contains_counted}
 use Rattle.fvn_combine_complete.proofs.TwoSummands.{shared_two, solid_two}
 use Rattle.fvn_combine_complete.proofs.Values.{bound_used, constant_why}
@@ -75,9 +77,18 @@ module _ (d : Declarations) (t : NodeTable) (made : IsWellMade t) (has : HasSums
   abbrev first : OpId
   first = record { 0 = 0 }
 
-  -- 0 where an operator without an identity heads a member; else 1 where two operators use the class, and 2 where no two do
+  -- 1 where the tag is an operator of which the value is neither a sum nor the identity, else 0
+  abbrev by_sum : (g : OpId) (v : FlatTerm) → Decided (IsSumOrIdentityOf d g v) → ℕ
+  by_sum g v (inl is) = 0
+  by_sum g v (inr not) = 1
+
+  abbrev by_tag : FlatTerm → Option OpId → ℕ
+  by_tag v None = 0
+  by_tag v (Some g) = by_sum g v (sum_or_identity_told d g v)
+
+  -- 0 where an operator without an identity heads a member; else 2 where no two operators use the class, and where two do, by its tag
   abbrev by_other : (g : OpId) (k : ℕ) → Users g k → ℕ
-  by_other g k (inl h) = 1
+  by_other g k (inl h) = by_tag (values k) (c.tag k)
   by_other g k (inr only) = 2
 
   abbrev by_user : (k : ℕ) → Users first k → ℕ
@@ -91,28 +102,28 @@ module _ (d : Declarations) (t : NodeTable) (made : IsWellMade t) (has : HasSums
   abbrev alias : ℕ → ℕ
   alias k = by_head k (told.heads k)
 
-  -- 1 or 2 where no operator without an identity heads a member
-  user_bounds : (k : ℕ) (o : Users first k) → (1 ≤ by_user k o) × (by_user k o ≤ 2)
-  user_bounds k (inl g) = of_other (told.users g.0 k)
+  tag_small : (v : FlatTerm) (o : Option OpId) → by_tag v o ≤ 1
+  tag_small v None = omega arith
+  tag_small v (Some g) = of_sum (sum_or_identity_told d g v)
     where
-      of_other : (o : Users g.0 k) → (1 ≤ by_other g.0 k o) × (by_other g.0 k o ≤ 2)
-      of_other (inl h) = (omega arith, omega arith)
-      of_other (inr h) = (omega arith, omega arith)
-  user_bounds k (inr h) = (omega arith, omega arith)
+      of_sum : (o : Decided (IsSumOrIdentityOf d g v)) → by_sum g v o ≤ 1
+      of_sum (inl is) = omega arith
+      of_sum (inr not) = omega arith
 
   alias_small : (k : ℕ) → alias k ≤ 2
   alias_small k = of_head (told.heads k)
     where
-      of_head : (o : Heads k) → by_head k o ≤ 2
-      of_head (inl h) = omega arith
-      of_head (inr h) = (user_bounds k (told.users first k)).1
+      of_other : (g : OpId) (o : Users g k) → by_other g k o ≤ 2
+      of_other g (inl h) = let n = tag_small (values k) (c.tag k) in omega (arith, n)
+      of_other g (inr only) = omega arith
 
-  soft_alias : (k : ℕ) → ((g : OpId) → IsSolid d t class g k → ⊥) → 1 ≤ alias k
-  soft_alias k soft = of_head (told.heads k)
-    where
-      of_head : (o : Heads k) → 1 ≤ by_head k o
-      of_head (inl h) = absurd (soft h.0 h.1)
-      of_head (inr h) = (user_bounds k (told.users first k)).0
+      of_user : (o : Users first k) → by_user k o ≤ 2
+      of_user (inl g) = of_other g.0 (told.users g.0 k)
+      of_user (inr only) = omega arith
+
+      of_head : (o : Heads k) → by_head k o ≤ 2
+      of_head (inl p) = omega arith
+      of_head (inr soft) = of_user (told.users first k)
 
   solid_alias : (g : OpId) (k : ℕ) → IsSolid d t class g k → alias k ≡ 0
   solid_alias g k h = of_head (told.heads k)
@@ -137,30 +148,50 @@ module _ (d : Declarations) (t : NodeTable) (made : IsWellMade t) (has : HasSums
       of_head (inl h) = absurd (soft h.0 h.1)
       of_head (inr h) = of_user (told.users first k)
 
-  -- at most 1 for a shared class
-  shared_alias : (k : ℕ) → IsShared d t class k → alias k ≤ 1
+  -- for a shared class it is by the tag
+  shared_alias : (k : ℕ) → IsShared d t class k → alias k ≡ by_tag (values k) (c.tag k)
   shared_alias k shared = of_head (told.heads k)
     where
       not_only : (g : OpId) → ((o : OpId) → Uses d t class o k → o ≡ g) → ⊥
       not_only g only = shared.different (only shared.first shared.uses_first ∙ sym (only shared.second shared.uses_second))
 
-      of_other : (g : OpId) (o : Users g k) → by_other g k o ≤ 1
-      of_other g (inl h) = omega arith
+      of_other : (g : OpId) (o : Users g k) → by_other g k o ≡ by_tag (values k) (c.tag k)
+      of_other g (inl h) = refl
       of_other g (inr only) = absurd (not_only g only)
 
-      of_user : (o : Users first k) → by_user k o ≤ 1
+      of_user : (o : Users first k) → by_user k o ≡ by_tag (values k) (c.tag k)
       of_user (inl g) = of_other g.0 (told.users g.0 k)
       of_user (inr only) = absurd (not_only first only)
 
-      of_head : (o : Heads k) → by_head k o ≤ 1
-      of_head (inl h) = omega arith
+      of_head : (o : Heads k) → by_head k o ≡ by_tag (values k) (c.tag k)
+      of_head (inl p) = absurd (shared.soft p.0 p.1)
       of_head (inr soft) = of_user (told.users first k)
 
-  -- and for a constant
+  -- 1 where it is taken as a sum
+  taken_alias : (f : OpId) (k : ℕ) → IsShared d t class k → c.tag k ≡ Some f → (IsSumOrIdentityOf d f (values k) → ⊥) → alias k ≡ 1
+  taken_alias f k shared e none = shared_alias k shared ∙ ap (by_tag (values k)) e ∙ of_sum (sum_or_identity_told d f (values k))
+    where
+      of_sum : (o : Decided (IsSumOrIdentityOf d f (values k))) → by_sum f (values k) o ≡ 1
+      of_sum (inl is) = absurd (none is)
+      of_sum (inr not) = refl
+
+  -- and 0 where it is not
+  untaken_alias : (k : ℕ) → IsShared d t class k → ((g : OpId) → c.tag k ≡ Some g → (IsSumOrIdentityOf d g (values k) → ⊥) → ⊥) → alias k ≡ 0
+  untaken_alias k shared never = shared_alias k shared ∙ of_tag (c.tag k) refl
+    where
+      of_sum : (g : OpId) → c.tag k ≡ Some g → (o : Decided (IsSumOrIdentityOf d g (values k))) → by_sum g (values k) o ≡ 0
+      of_sum g e (inl is) = refl
+      of_sum g e (inr not) = absurd (never g e not)
+
+      of_tag : (o : Option OpId) → c.tag k ≡ o → by_tag (values k) o ≡ 0
+      of_tag None e = refl
+      of_tag (Some g) e = of_sum g e (sum_or_identity_told d g (values k))
+
+  -- at most 1 for a constant
   constant_alias : (f : OpId) (k : ℕ) → IsConstant d t class c.tag f k → alias k ≤ 1
   constant_alias f k h = elim (constant_why d t class told c.tag f k h) [
     | inl p ↦ (let z = solid_alias p.0 k p.2 in omega (arith, z))
-    | inr shared ↦ shared_alias k shared
+    | inr shared ↦ (let e = shared_alias k shared in let n = tag_small (values k) (c.tag k) in omega (arith, e, n))
   ]
 
   abbrev rank : ℕ → ℕ
@@ -194,11 +225,11 @@ module _ (d : Declarations) (t : NodeTable) (made : IsWellMade t) (has : HasSums
     right = together.right;
   }
 
-  -- a constant of a class that is taken as a sum, and has its value, has the head of an operator without an identity
-  taken_alias : (f : OpId) → IsSumOperator d t f → (k l : ℕ) → IsTakenAsSum d t class c.tag values f k → IsConstant d t class c.tag f l → AreTakenTogether d t class y c f k l → values l ≡ values k → alias l ≡ 0
-  taken_alias f sum k l as_sum h together same = elim (constant_why d t class told c.tag f l h) [
+  -- a constant of a class that is taken as a sum, and has its value, is not taken as a sum
+  constant_untaken : (f : OpId) → IsSumOperator d t f → (k l : ℕ) → IsTakenAsSum d t class c.tag values f k → IsConstant d t class c.tag f l → AreTakenTogether d t class y c f k l → values l ≡ values k → alias l ≡ 0
+  constant_untaken f sum k l as_sum h together same = elim (constant_why d t class told c.tag f l h) [
     | inl p ↦ solid_alias p.0 l p.2
-    | inr shared ↦ absurd (as_sum.differ l h shared (taken_touched f sum k l together) same)
+    | inr shared ↦ untaken_alias l shared (λ g e none. as_sum.differ l g h shared e none (taken_touched f sum k l together) same)
   ]
 
   falls_to_summand : (f : OpId) → IsSumOperator d t f → (k l : ℕ) → IsBound d t class c.tag f k → IsConstant d t class c.tag f l → AreTakenTogether d t class y c f k l → Contains (parts d f (values k)) (values l) → rank l < rank k
@@ -230,8 +261,8 @@ module _ (d : Declarations) (t : NodeTable) (made : IsWellMade t) (has : HasSums
           elim (shared_two d t made has s leaf told values go_with c.tag obeying.tags f k shared (tagged u shared e) (omega (arith, some))) [
             | inl two ↦ absurd (omega (arith, two, few))
             | inr as_sum ↦ (
-                let z = taken_alias f sum k l as_sum h together value in
-                let o = soft_alias k shared.soft in
+                let z = constant_untaken f sum k l as_sum h together value in
+                let o = taken_alias f k shared e (as_sum.one f u) in
                 omega (arith, z, o))
           ]
 

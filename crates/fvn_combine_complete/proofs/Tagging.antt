@@ -28,12 +28,13 @@ use Rattle.fvn_combine_nodes.proofs.Heading.{identity_of}
 use Rattle.fvn_combine_nodes.proofs.Admitting.{admits_apart, named_within}
 use Rattle.fvn_combine_nodes.proofs.Subterms.{node_kinded}
 use Rattle.fvn_combine_systems.specs.Laws.{UnifiersHaveValues}
-use Rattle.fvn_combine_leaves.specs.Leaves.{Uses, IsShared, IsNotedSum, IsLeaf}
-use Rattle.fvn_combine_choices.specs.Binding.{IsBound, tagged, IsConstant}
+use Rattle.fvn_combine_leaves.specs.Leaves.{IsSolid, Uses, IsShared, IsSingle, IsNotedSum, HasSpace, IsLeaf}
+use Rattle.fvn_combine_choices.specs.Binding.{IsBound, solid, alone, tagged, IsConstant}
 use Rattle.fvn_combine_choices.specs.Choosing.{Systems, AreSystems}
 use Rattle.fvn_combine_choices.specs.Tables.{HasSums}
-use Rattle.fvn_combine_complete.specs.Obeying.{IsTold, GoWith, IsSumOf, IsSumOrIdentityOf, IsLabel, ObeyHeads, IsTakenAsSum, ObeysTag, ObeyTags, TagsFollow}
+use Rattle.fvn_combine_complete.specs.Obeying.{IsTold, GoWith, IsSumOf, IsSumOrIdentityOf, IsLabel, ObeyHeads, IsBare, IsTakenAsSum, ObeysTag, ObeyTags, TagsFollow}
 use Rattle.fvn_combine_complete.specs.Laws.{TagsExist}
+use Rattle.fvn_combine_complete.specs.Neutral.{IsNeutral}
 use Rattle.fvn_combine_complete.proofs.Asked.{tag_told, bare_told, user_told, shared_told, IsUserWith, user_with_told}
 use Rattle.fvn_combine_complete.proofs.Identities.{operator_told, unit_at, own_name, same_class, one_identity}
 use Rattle.fvn_combine_complete.proofs.Values.{may_be}
@@ -212,6 +213,67 @@ module _ (d : Declarations) (t : NodeTable) (made : IsWellMade t) (has : HasSums
     | inr none ↦ (tag_at k).1.right f (sym (tag_else k none) ∙ e)
   ]
 
+  follow : TagsFollow d t class tag values heads
+  follow k f shared used = record {
+    noted = λ n. tag_noted k f (record { shared = shared; used = used; noted = n });
+    meant = λ m. elim (noted_or_none k) [
+      | inl n ↦ inr (subst (λ o. IsNotedSum d t heads o k) (Some-injective (sym (tag_noted k n.0 n.1) ∙ m)) n.1.noted)
+      | inr none ↦ inl (((tag_at k).1.is_tag f shared used).0 (sym (tag_else k none) ∙ m))
+    ];
+  }
+
+  -- which classes are constants of an operator that has an identity is told by the tags
+  module _ (f : OpId) (neutral : IsNeutral d f) where
+    headed : (z : ℕ) (g : OpId) → IsSolid d t class g z → IsBound d t class tag f z → ⊥
+    headed z g h (solid associative own) = identity_of (axioms d f) neutral.unit own.no_identity neutral.is_identity
+    headed z g h (alone used soft only) = soft g h
+    headed z g h (tagged used shared e) = shared.soft g h
+
+    untagged : (z : ℕ) (g : OpId) → g ≢ f → Uses d t class g z → (tag z ≡ Some f → ⊥) → IsBound d t class tag f z → ⊥
+    untagged z g n u fails (solid associative own) = identity_of (axioms d f) neutral.unit own.no_identity neutral.is_identity
+    untagged z g n u fails (alone used soft only) = n (only g u)
+    untagged z g n u fails (tagged used shared e) = fails e
+
+    constant_by_tag : (z : ℕ) → Decided (IsConstant d t class tag f z)
+    constant_by_tag z = elim (user_told d t class y systems f z) [
+      | inr n ↦ inr (λ c. n c.used)
+      | inl u ↦ elim (told.heads z) [
+        | inl p ↦ inl (record { used = u; not_bound = headed z p.0 p.1 })
+        | inr soft ↦ elim (told.users f z) [
+          | inr only ↦ inr (λ c. c.not_bound (alone u soft only))
+          | inl g ↦ elim (tag_told (tag z) f) [
+            | inl e ↦ inr (λ c. c.not_bound (tagged u (record { soft = soft; first = g.0; second = f; different = g.1; uses_first = g.2; uses_second = u }) e))
+            | inr fails ↦ inl (record { used = u; not_bound = untagged z g.0 g.1 g.2 fails })
+          ]
+        ]
+      ]
+    ]
+
+    -- a shared class of which f is noted is no constant
+    no_noted : (l : ℕ) → IsConstant d t class tag f l → IsShared d t class l → IsNotedSum d t heads f l → ⊥
+    no_noted l c shared noted = c.not_bound (tagged c.used shared (tag_noted l f (record { shared = shared; used = c.used; noted = noted })))
+
+    -- what is a single summand for sure, or has space, is a constant, or a minimal solution without one has it
+    space_taken : (z : ℕ) → IsSingle d t class f z ⊎ HasSpace d t heads s f z → IsConstant d t class tag f z ⊎ IsBare d t class tag values f z
+    space_taken z (inl single) = inl (record { used = single.used; not_bound = headed z single.head single.solid })
+    space_taken z (inr space) = elim (constant_by_tag z) [
+      | inl c ↦ inl c
+      | inr n ↦ inr (record {
+        columns = space.columns;
+        system = space.system;
+        is = space.is;
+        solution = space.solution;
+        minimal = space.minimal;
+        has = space.has;
+        free = λ l c. elim (cases_eq (component space.columns space.solution l) 0) [
+          | inl none ↦ none
+          | inr some ↦ absurd (
+              let noted = space.free l (λ e. n (subst (IsConstant d t class tag f) e c)) (omega (arith, some)) (may_be d t class told tag f l c) in
+              no_noted l c noted.0 noted.1)
+        ];
+      })
+    ]
+
   -- a class of which an operator is noted is taken as a sum of it, where its value is none
   module _ (k : ℕ) (f : OpId) (h : IsNoted k f) where
     within : k < length t.nodes
@@ -233,21 +295,18 @@ module _ (d : Declarations) (t : NodeTable) (made : IsWellMade t) (has : HasSums
         | inl same ↦ no_sum (subst (λ o. IsSumOrIdentityOf d o (values k)) same is)
         | inr n ↦ label.other g n u is
       ];
-      columns = label.room.columns;
-      system = label.room.system;
-      is = label.room.is;
-      solution = label.room.solution;
-      minimal = label.room.minimal;
-      has = label.room.has;
-      free = λ l c. elim (cases_eq (component label.room.columns label.room.solution l) 0) [
-        | inl z ↦ z
-        | inr n ↦ absurd (
-            let room = label.room.free l (omega (arith, n)) (may_be d t class told tag f l c) in
-            no_noted l c room.0 room.1)
-      ];
-      differ = λ l c shared touched same.
+      member = label.room.member;
+      left = label.room.left;
+      right = label.room.right;
+      over = label.room.over;
+      of = label.room.of;
+      left_taken = space_taken f label.neutral (class label.room.left) label.room.left_space;
+      right_taken = space_taken f label.neutral (class label.room.right) label.room.right_space;
+      differ = λ l g c shared e no_sum touched same.
           let n : l ≢ k = λ e. c.not_bound (subst (IsBound d t class tag f) (sym e) (tagged h.used h.shared (tag_noted k f h))) in
-          elim (label.room.told l n shared (may_be d t class told tag f l c) (no_noted l c shared) touched) [
+          let other : g ≢ f = λ same. c.not_bound (tagged c.used shared (e ∙ ap Some same)) in
+          let noted : IsNotedSum d t heads g l = elim ((follow l g shared (tag_right l g e).1).meant e) [ inl is ↦ absurd (no_sum is) | inr m ↦ m ] in
+          elim (label.room.told l g n other shared noted touched) [
             | inl two ↦ h.shared.soft two.first two.heads_first
             | inr closed ↦ elim (same_class d t s values go_with k l (own_name d t made s leaf f k h.used.column) (own_name d t made s leaf f l c.used.column).within) [
               | inl o ↦ closed o
@@ -258,10 +317,6 @@ module _ (d : Declarations) (t : NodeTable) (made : IsWellMade t) (has : HasSums
             ]
           ];
     }
-      where
-        -- a shared class of which f is noted is no constant
-        no_noted : (l : ℕ) → IsConstant d t class tag f l → IsShared d t class l → IsNotedSum d t heads f l → ⊥
-        no_noted l c shared noted = c.not_bound (tagged c.used shared (tag_noted l f (record { shared = shared; used = c.used; noted = noted })))
 
     noted_obeys : ObeysTag d t class tag values k f
     noted_obeys = record {
@@ -295,15 +350,6 @@ module _ (d : Declarations) (t : NodeTable) (made : IsWellMade t) (has : HasSums
       }
     ]
   ]
-
-  follow : TagsFollow d t class tag values heads
-  follow k f shared used = record {
-    noted = λ n. tag_noted k f (record { shared = shared; used = used; noted = n });
-    meant = λ m. elim (noted_or_none k) [
-      | inl n ↦ inr (subst (λ o. IsNotedSum d t heads o k) (Some-injective (sym (tag_noted k n.0 n.1) ∙ m)) n.1.noted)
-      | inr none ↦ inl (((tag_at k).1.is_tag f shared used).0 (sym (tag_else k none) ∙ m))
-    ];
-  }
 
   pub right_tags : RightTags d t s heads values
   right_tags = record { tag = tag; right = tag_right; obey = obey; follow = follow }

@@ -35,20 +35,23 @@ IsSumOf f v = (ts : FlatTerms) × (v ≡ fapp f true ts)
 abbrev pub IsSumOrIdentityOf : Declarations → OpId → FlatTerm → Type 0
 IsSumOrIdentityOf d f v = IsSumOf f v ⊎ ((e : OpId) × (identity (axioms d f) ≡ Some e) × (v ≡ fconstant e))
 
--- no operator that uses class k, but f, makes the form a sum, or has it as its identity
-abbrev pub IsOfNoOther : Declarations → NodeTable → (ℕ → ℕ) → OpId → ℕ → FlatTerm → Type 0
-IsOfNoOther d t class f k v = (g : OpId) → g ≢ f → Uses d t class g k → IsSumOrIdentityOf d g v → ⊥
+module _ (d : Declarations) (t : NodeTable) (class : ℕ → ℕ) where
+  -- no operator that uses class k, but f, makes the form a sum, or has it as its identity
+  abbrev pub IsOfNoOther : OpId → ℕ → FlatTerm → Type 0
+  IsOfNoOther f k v = (g : OpId) → g ≢ f → Uses d t class g k → IsSumOrIdentityOf d g v → ⊥
 
--- f is a label of class k: its identity leaves sorts alone, the class has room for it, and no other operator that uses the class makes the value a sum
-pub record IsLabel (d : Declarations) (t : NodeTable) (s : State) (heads : List (Option OpId)) (f : OpId) (k : ℕ) (v : FlatTerm) : Type 0 where
-  pub neutral : IsNeutral d f
-  pub room : HasRoom d t heads s f k
-  pub other : IsOfNoOther d t (class_of s) f k v
+module _ (d : Declarations) (t : NodeTable) (s : State) (heads : List (Option OpId)) where
+  -- f is a label of class k: its identity leaves sorts alone, the class has room for it, and no other operator that uses the class makes the value
+  -- a sum
+  pub record IsLabel (f : OpId) (k : ℕ) (v : FlatTerm) : Type 0 where
+    pub neutral : IsNeutral d f
+    pub room : HasRoom d t heads s f k
+    pub other : IsOfNoOther d t (class_of s) f k v
 
--- where an operator with an identity is noted of a class, the value is a sum of it, or the operator is a label
-abbrev pub ObeyHeads : Declarations → NodeTable → State → List (Option OpId) → (ℕ → FlatTerm) → Type 0
-ObeyHeads d t s heads values = (k : ℕ) (f : OpId) → k < length t.nodes → IsNotedSum d t heads f k
-    → IsSumOf f (values k) ⊎ IsLabel d t s heads f k (values k)
+  -- where an operator with an identity is noted of a class, the value is a sum of it, or the operator is a label
+  abbrev pub ObeyHeads : (ℕ → FlatTerm) → Type 0
+  ObeyHeads values = (k : ℕ) (f : OpId) → k < length t.nodes → IsNotedSum d t heads f k
+      → IsSumOf f (values k) ⊎ IsLabel f k (values k)
 
 module _ (d : Declarations) (t : NodeTable) (class : ℕ → ℕ) (tag : ℕ → Option OpId) (values : ℕ → FlatTerm) where
   -- a minimal solution of f's sum system has class z, and no constant of f

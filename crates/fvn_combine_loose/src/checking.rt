@@ -65,7 +65,8 @@ fn are_beside(state: &State, ks: &[usize], i: usize, u: usize) -> bool
     requires all { All (λ k. k < length state.now.names) ks.now }
     requires own { i < length state.now.names }
     requires other { u < length state.now.names }
-    ensures { IsTrue result → AreOf (class_of state.now) ks.now (class_of state.now i) (class_of state.now u) }
+    ensures { IsTrue result
+        → AreOf (class_of state.now) ks.now (class_of state.now i) (class_of state.now u) }
 {
     let own = state.class_of(i);
     let other = state.class_of(u);
@@ -135,7 +136,8 @@ fn is_idle_or_raised(
     requires whole { length state.now.names ≡ length table.now.nodes }
     requires within { i < length table.now.nodes }
     requires all { All (λ k. k < length state.now.names) ks.now }
-    ensures { IsTrue result → IsIdle table.now state.now i f ks.now ⊎ IsRaised state.now heights.now i ks.now }
+    ensures { IsTrue result
+        → IsIdle table.now state.now i f ks.now ⊎ IsRaised state.now heights.now i ks.now }
 {
     if is_raised(state, heights, i, ks) {
         return true;

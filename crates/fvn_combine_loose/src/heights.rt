@@ -58,7 +58,8 @@ fn found_by(
     ways: &Ways,
 ) -> Result<Found, NoMemory>
     requires closed { IsClosed sig.now table.now state.now }
-    ensures { IfOk result (λ found. AreFound sig.now table.now state.now found.classes.items found.heights.items) }
+    ensures { IfOk result (λ found.
+        AreFound sig.now table.now state.now found.classes.items found.heights.items) }
 {
     let sorts = node_sorts(alloc, sig, table)?;
     let marks = fine_nodes(
@@ -95,7 +96,8 @@ fn find_loose(
     state: &State,
 ) -> Result<Found, NoMemory>
     requires closed { IsClosed sig.now table.now state.now }
-    ensures { IfOk result (λ found. AreFound sig.now table.now state.now found.classes.items found.heights.items) }
+    ensures { IfOk result (λ found.
+        AreFound sig.now table.now state.now found.classes.items found.heights.items) }
 {
     if table.nodes().len() > NODES {
         return Ok(Found {
