@@ -14,7 +14,7 @@ use Rattle.fvn_flat.specs.SolvedLists.{component}
 use Rattle.fvn_combine_nodes.specs.Table.{NodeTable, IsWellMade}
 use Rattle.fvn_combine_nodes.specs.States.{IsClosed, class_of}
 use Rattle.fvn_combine_nodes.specs.declared.state.State.{State}
-use Rattle.fvn_combine_systems.specs.NodeSystems.{IsNodeSystem}
+use Rattle.fvn_combine_systems.specs.NodeSystems.{IsNodeColumn, IsNodeSystem}
 use Rattle.fvn_combine_systems.proofs.Weighing.{component_at}
 use Rattle.fvn_combine_leaves.specs.Leaves.{IsSolid, IsShared, MayBeConstant, HaveTwoHeads, AreTold}
 use Rattle.fvn_combine_leaves.specs.Bases.{AreBases}
@@ -76,11 +76,15 @@ module _ (d : Declarations) (t : NodeTable) (made : IsWellMade t) (s : State) (c
     told_of j l a b (inl heads) = inl (two_heads (get_or e.columns j 0) (get_or e.columns l 0) (node_at j a) (node_at l b) heads)
     told_of j l a b (inr closed_pair) = inr closed_pair
 
-    -- the column of a class
-    pub column_of : (k : ℕ) → MayBeConstant d t (class_of s) e.operator k → (j : ℕ) × (j < length e.columns) × (get_or e.columns j 0 ≡ k)
-    column_of k m =
-        let c = (sums_at.is_system.exact k).1 m.used.column in
+    -- where the column of a class stands
+    pub column_at : (k : ℕ) → IsNodeColumn t (class_of s) e.operator k → (j : ℕ) × (j < length e.columns) × (get_or e.columns j 0 ≡ k)
+    column_at k column =
+        let c = (sums_at.is_system.exact k).1 column in
         (c.0, c.1, get_or_default e.columns c.0 0 k c.1 ∙ c.2)
+
+    -- that of a class that may be a constant
+    pub column_of : (k : ℕ) → MayBeConstant d t (class_of s) e.operator k → (j : ℕ) × (j < length e.columns) × (get_or e.columns j 0 ≡ k)
+    column_of k m = column_at k m.used.column
 
     -- a minimal solution of the operator's system, whatever the order of its columns is, is among those that are found
     pub own_of : (bases : List (List Solution)) → AreBases r.sums bases → (columns : List ℕ) (system : System) → IsNodeSystem t (class_of s) e.operator columns system → (solution : List ℕ) → IsMinimal system.columns (rows_of system) solution → HasOwn (get_or bases i []) e columns solution

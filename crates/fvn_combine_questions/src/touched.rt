@@ -41,7 +41,7 @@ pub(crate) fn has_column(v: &Solution, i: usize) -> bool
 }
 
 // Whether the solution has column i, whose class may be a constant of the operator, and is not noted as a sum by it.
-pub(crate) fn stands(
+fn stands(
     sig: &Signature,
     reading: &Reading,
     heads: &[Option<OpId>],

@@ -4,8 +4,8 @@ use Rattle.std.proofs.lemmas.Bool.{not-false}
 use Rattle.std.proofs.lemmas.Option.{slice_get_read}
 use Rattle.fvn_forms.proofs.Sums.{same_op_is}
 use Rattle.fvn_combine_leaves.specs.declared.reading.Sums.{Sums}
-use Rattle.fvn_combine_questions.specs.inner.Touched.{AreWide, IsNotedIn}
-use Rattle.fvn_combine_questions.specs.inner.Labels.{HasRoomOf}
+use Rattle.fvn_combine_questions.specs.inner.Touched.{AreWide}
+use Rattle.fvn_combine_questions.specs.inner.Labels.{IsRoom}
 use Rattle.fvn_combine_questions.proofs.Passing.{basis_at}
 use Rattle.fvn_combine_questions.proofs.labels.has_room.Goals as goal
 
@@ -29,7 +29,7 @@ returns-then-has_room_of c =
       entry = c.index-sums-i.result;
       at = slice_get_read sums (length sums) c.loop-i.i c.index-sums-i.result refl within at;
       operator = same_op_is c.index-sums-i.result.operator c.args.f (not-false _ (sym c.if-ne.ensures));
-      room = subst (λ basis. HasRoomOf c.args.reading.now c.index-sums-i.result (IsNotedIn c.args.sig.now c.args.labels.now) c.args.state.now basis c.args.k)
+      room = subst (λ basis. IsRoom c.args.table.now c.args.state.now c.args.reading.now c.args.labels.now c.index-sums-i.result basis c.args.k)
           (sym (basis_at c.args.bases.now c.loop-i.i c.index-bases-i.result c.as_slice.result.now (omega (arith, within, many)) c.index-bases-i.is c.as_slice.ensures))
           (c.has_room_of.ensures c.if-has_room_of.true);
     }
