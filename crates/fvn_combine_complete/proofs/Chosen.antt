@@ -299,7 +299,7 @@ module _ (d : Declarations) (t : NodeTable) (made : IsWellMade t) (has : HasSums
         (leaf.constants f k l (may_be d t class told c.tag f k hk) (may_be d t class told c.tag f l hl)
         (constant_not_noted d t made has s leaf told values go_with c.tag obey obey_heads follow f k hk) (constant_not_noted d t made has s leaf told values go_with c.tag obey obey_heads follow f l hl)
         (record { columns = y.columns f; system = y.system f; is = is_node_system; solution = together.solution; minimal = minimal; left = together.left; right = together.right })
-        (alike_live d t made has s leaf told values go_with c.tag obey f (y.columns f) together.solution alike))
+        (alike_live d t made has s leaf told values go_with c.tag obey follow f (y.columns f) together.solution alike))
         (alike k l hk hl together.left together.right))
   ]
 

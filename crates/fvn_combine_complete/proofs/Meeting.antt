@@ -104,7 +104,7 @@ module _ (law : CountsSolve) (d : Declarations) (t : NodeTable) (made : IsWellMa
                 (leaf.constants f k l (may_be d t (class_of s) told tag f k rc.1) (may_be d t (class_of s) told tag f l re.1)
                 (constant_not_noted d t made has s leaf told values go_with tag obey obey_heads follow f k rc.1) (constant_not_noted d t made has s leaf told values go_with tag obey obey_heads follow f l re.1)
                 (record { columns = columns; system = system; is = is; solution = v; minimal = (exact v).0 b; left = left; right = right })
-                (alike_live d t made has s leaf told values go_with tag obey f columns v (alike_values v alike)))
+                (alike_live d t made has s leaf told values go_with tag obey follow f columns v (alike_values v alike)))
                 (alike c e m n p q);
             filled = λ j z.
                 let r = (asked.required j).0 z in

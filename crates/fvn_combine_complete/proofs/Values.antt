@@ -27,7 +27,7 @@ use Rattle.fvn_combine_nodes.proofs.Heading.{identity_of, some_part, build_head}
 use Rattle.fvn_combine_systems.specs.NodeSystems.{is_headed, addends, stands_in, coefficient}
 use Rattle.fvn_combine_systems.proofs.Members.{over_addends}
 use Rattle.fvn_combine_systems.proofs.Weighing.{balance}
-use Rattle.fvn_combine_leaves.specs.Leaves.{IsSolid, Uses, IsShared, HasTwin, IsSingle, MayBeConstant, HaveTwoHeads, IsLive, IsNotedSum, IsLeaf}
+use Rattle.fvn_combine_leaves.specs.Leaves.{IsSolid, Uses, IsShared, HasTwin, IsSingle, MayBeConstant, HaveTwoHeads, IsLive, IsNotedSum, IsOneSummand, IsLeaf}
 use Rattle.fvn_combine_choices.specs.Binding.{IsBound, solid, alone, tagged, IsConstant, IsRequired}
 use Rattle.fvn_combine_choices.specs.Tables.{HasSums}
 use Rattle.fvn_combine_complete.specs.Obeying.{IsTold, GoWith, IsSumOf, IsSumOrIdentityOf, ObeyHeads, IsTakenAsSum, ObeyTags, TagsFollow}
@@ -105,13 +105,24 @@ module _ (d : Declarations) (t : NodeTable) (made : IsWellMade t) (has : HasSums
   constant_alone f k h = single_part d f (values k) (constant_no_sum f k h) (constant_no_identity f k h)
 
   -- a single summand is a constant, whatever the tags are
-  pub single_constant : (f : OpId) (k : ℕ) → IsSingle d t class f k → IsConstant d t class tag f k
+  single_constant : (f : OpId) (k : ℕ) → IsSingle d t class f k → IsConstant d t class tag f k
   single_constant f k h = record { used = h.used; not_bound = unbound }
     where
       unbound : IsBound d t class tag f k → ⊥
       unbound (solid associative own) = h.other (let e : Some h.head ≡ Some f = sym (head_of_solid h.head k h.solid) ∙ head_of_solid f k own in cc)
       unbound (alone used soft only) = soft h.head h.solid
       unbound (tagged used shared is) = shared.soft h.head h.solid
+
+  -- so is a class of which another operator that uses it is noted, where the tags follow
+  summand_constant : TagsFollow d t class tag values heads → (f : OpId) (k : ℕ) → IsOneSummand d t heads class f k → IsConstant d t class tag f k
+  summand_constant follow f k (inl single) = single_constant f k single
+  summand_constant follow f k (inr h) = record { used = h.used; not_bound = unbound }
+    where
+      unbound : IsBound d t class tag f k → ⊥
+      unbound (solid associative own) = h.shared.soft f own
+      unbound (alone used soft only) = h.other (only h.operator h.uses)
+      unbound (tagged used shared is) =
+          h.other (let e : Some h.operator ≡ Some f = sym ((follow k h.operator h.shared h.uses).noted h.noted) ∙ is in cc)
 
   name_of : (f : OpId) (k : ℕ) → IsConstant d t class tag f k → IsName t class k
   name_of f k h = own_name d t made s leaf f k h.used.column
@@ -138,10 +149,12 @@ module _ (d : Declarations) (t : NodeTable) (made : IsWellMade t) (has : HasSums
   ]
 
   -- a solution whose constants all have one value may stand for a summand
-  pub alike_live : (f : OpId) (columns solution : List ℕ) → ((k l : ℕ) → IsConstant d t class tag f k → IsConstant d t class tag f l → 0 < component columns solution k → 0 < component columns solution l → values k ≡ values l)
-      → IsLive d t s f columns solution
-  alike_live f columns solution alike k l n single other left right told_apart =
-      constants_differ f k l (single_constant f k single) (single_constant f l other) n told_apart (alike k l (single_constant f k single) (single_constant f l other) left right)
+  pub alike_live : TagsFollow d t class tag values heads → (f : OpId) (columns solution : List ℕ) → ((k l : ℕ) → IsConstant d t class tag f k → IsConstant d t class tag f l → 0 < component columns solution k → 0 < component columns solution l → values k ≡ values l)
+      → IsLive d t heads s f columns solution
+  alike_live follow f columns solution alike k l n one other left right told_apart =
+      let hk = summand_constant follow f k one in
+      let hl = summand_constant follow f l other in
+      constants_differ f k l hk hl n told_apart (alike k l hk hl left right)
 
   -- what an associative operator without an identity heads is used
   module _ (f : OpId) (k : ℕ) (assoc : IsAssociative (axioms d f)) (h : IsSolid d t class f k) where

@@ -13,15 +13,15 @@ use Rattle.fvn_combine_questions.specs.Swaps.{IsSwap}
 use Rattle.fvn_combine_nodes.specs.declared.state.State.{State}
 use Rattle.fvn_combine_nodes.proofs.Nodes.{arguments_within}
 use Rattle.fvn_combine_nodes.proofs.Lists.{all_from}
-use Rattle.fvn_combine_leaves.specs.Leaves.{Uses, MayBeConstant, IsSingle, HaveTwoHeads, AreTouched, AreTold, IsLive, IsNotedSum, IsNearLeaf, IsFirstQuestion, IsQuestion, IsFullQuestion}
+use Rattle.fvn_combine_leaves.specs.Leaves.{Uses, MayBeConstant, IsOneSummand, HaveTwoHeads, AreTouched, AreTold, IsLive, IsNotedSum, IsNearLeaf, IsFirstQuestion, IsQuestion, IsFullQuestion}
 use Rattle.fvn_combine_leaves.specs.Bases.{AreBases}
 use Rattle.fvn_combine_leaves.specs.Readings.{AreSums, IsReading}
 use Rattle.fvn_combine_questions.specs.inner.Past.{IsOpenPairOr, IsPastUser, ArePastIdentities, ArePastClasses, ArePastPairs}
-use Rattle.fvn_combine_leaves.specs.Users.{IsWhole, HasTwinIn, IsSharedIn, CanBeConstant, HaveHeads}
-use Rattle.fvn_combine_questions.specs.inner.Touched.{AreAllWide, IsNotedIn, IsSingleIn, AreToldIn, IsDead, IsPastSolution, AreAllPast}
+use Rattle.fvn_combine_leaves.specs.Users.{IsWhole, IsMarked, HasTwinIn, IsSharedIn, CanBeConstant, HaveHeads}
+use Rattle.fvn_combine_questions.specs.inner.Touched.{AreAllWide, IsNotedIn, IsOneSummandIn, IsSingleIn, AreToldIn, IsDead, IsPastSolution, AreAllPast}
 use Rattle.fvn_combine_leaves.specs.declared.reading.Sums.{Sums}
 use Rattle.fvn_combine_leaves.specs.declared.reading.Reading.{Reading}
-use Rattle.fvn_combine_leaves.proofs.ReadOfState.{column_within, reading_whole as whole_of_nodes, marked_to, marked_from, entry_of, twin_in, shared_in}
+use Rattle.fvn_combine_leaves.proofs.ReadOfState.{column_within, reading_whole as whole_of_nodes, marked_to, marked_from, entry_of, twin_in, shared_in, shared_from}
 use Rattle.fvn_combine_questions.proofs.ColumnsOfLeaves.{contained_at, place_of, HasOwn, can_be, two_heads, sums_at, node_at, told_of, column_of, own_of}
 
 module _ (d : Declarations) (t : NodeTable) (made : IsWellMade t) (s : State) (closed : IsClosed d t s) where
@@ -104,18 +104,28 @@ module _ (d : Declarations) (t : NodeTable) (made : IsWellMade t) (s : State) (c
           told_at : (i j : ℕ) → i < length e.columns → j < length e.columns → AreToldIn r e s i j → AreTold d t s (get_or e.columns i 0) (get_or e.columns j 0)
           told_at = told_of d t made s closed r reading c.0 e at_place
 
-          -- the class of a column that has a single summand is one
-          single_of : (v : Solution) (i : ℕ) → i < length e.columns → IsSingleIn r e v i → IsSingle d t (class_of s) e.operator (get_or e.columns i 0)
-          single_of v i within h =
-              let g = h.head in
-              record {
-                used = marked_from d t made s closed r reading e c (get_or e.columns i 0) h.used;
-                head = g.0;
-                other = g.2;
-                solid = (reading.heads.exact (get_or e.columns i 0) g.0 (node_at d t made s closed r reading c.0 e at_place i within)).0 g.1;
-              }
+          -- a class that is one summand by its head, or by what is noted, is one
+          summand_of : (k : ℕ) → k < length t.nodes → IsMarked e k → IsOneSummandIn r e (IsNotedIn d heads) k → IsOneSummand d t heads (class_of s) e.operator k
+          summand_of k node marked (inl g) = inl (record {
+            used = marked_from d t made s closed r reading e c k marked;
+            head = g.0;
+            other = g.2;
+            solid = (reading.heads.exact k g.0 node).0 g.1;
+          })
+          summand_of k node marked (inr (own, user)) = inr (record {
+            shared = shared_from d t made s closed r reading k node own;
+            used = marked_from d t made s closed r reading e c k marked;
+            operator = user.entry.operator;
+            other = user.other;
+            uses = marked_from d t made s closed r reading user.entry user.listed k user.uses;
+            noted = record { noted = user.sum.0; some = user.sum.1 };
+          })
 
-          module _ (k l : ℕ) (mk : MayBeConstant d t (class_of s) e.operator k) (ml : MayBeConstant d t (class_of s) e.operator l) (nk : IsNotedSum d t heads e.operator k → ⊥) (nl : IsNotedSum d t heads e.operator l → ⊥) (h : AreTouched d t (class_of s) e.operator k l) (live : IsLive d t s e.operator h.columns h.solution) where
+          -- the class of a column that has a single summand is one
+          single_of : (v : Solution) (i : ℕ) → i < length e.columns → IsSingleIn r e (IsNotedIn d heads) v i → IsOneSummand d t heads (class_of s) e.operator (get_or e.columns i 0)
+          single_of v i within h = summand_of (get_or e.columns i 0) (node_at d t made s closed r reading c.0 e at_place i within) h.used h.one
+
+          module _ (k l : ℕ) (mk : MayBeConstant d t (class_of s) e.operator k) (ml : MayBeConstant d t (class_of s) e.operator l) (nk : IsNotedSum d t heads e.operator k → ⊥) (nl : IsNotedSum d t heads e.operator l → ⊥) (h : AreTouched d t (class_of s) e.operator k l) (live : IsLive d t heads s e.operator h.columns h.solution) where
             own_solution : HasOwn (get_or bases c.0 []) e h.columns h.solution
             own_solution = own_of d t made s closed r reading c.0 e at_place bases are h.columns h.system h.is h.solution h.minimal
 
@@ -125,7 +135,7 @@ module _ (d : Declarations) (t : NodeTable) (made : IsWellMade t) (s : State) (c
             part : (j : ℕ) → j < length e.columns → get_or own.parts j 0 ≡ component h.columns h.solution (get_or e.columns j 0)
             part = own_solution.part
 
-            not_dead : IsDead r e s own → ⊥
+            not_dead : IsDead r e s (IsNotedIn d heads) own → ⊥
             not_dead x =
                 let i = x.column in
                 let j = x.dead.other in
@@ -165,9 +175,9 @@ module _ (d : Declarations) (t : NodeTable) (made : IsWellMade t) (s : State) (c
       pub asked_on_touched : IsNearLeaf d t s → (o : Option (ℕ × ℕ)) → IsOpenPairOr s (AreAllPast r s (IsNotedIn d heads) bases) o → IsQuestion d t heads s o
       asked_on_touched near None past = record { closed = near.closed; partition = near.partition; identities = near.identities; constants = touched }
         where
-          touched : (f : OpId) (k l : ℕ) → MayBeConstant d t (class_of s) f k → MayBeConstant d t (class_of s) f l → (IsNotedSum d t heads f k → ⊥) → (IsNotedSum d t heads f l → ⊥) → (both : AreTouched d t (class_of s) f k l) → IsLive d t s f both.columns both.solution → AreTold d t s k l
+          touched : (f : OpId) (k l : ℕ) → MayBeConstant d t (class_of s) f k → MayBeConstant d t (class_of s) f l → (IsNotedSum d t heads f k → ⊥) → (IsNotedSum d t heads f l → ⊥) → (both : AreTouched d t (class_of s) f k l) → IsLive d t heads s f both.columns both.solution → AreTold d t s k l
           touched f k l mk ml nk nl both live =
               let a = entry_of d t made s closed r reading f k mk.used in
-              subst (λ o. (mk : MayBeConstant d t (class_of s) o k) (ml : MayBeConstant d t (class_of s) o l) (nk : IsNotedSum d t heads o k → ⊥) (nl : IsNotedSum d t heads o l → ⊥) (both : AreTouched d t (class_of s) o k l) → IsLive d t s o both.columns both.solution → AreTold d t s k l) a.operator
+              subst (λ o. (mk : MayBeConstant d t (class_of s) o k) (ml : MayBeConstant d t (class_of s) o l) (nk : IsNotedSum d t heads o k → ⊥) (nl : IsNotedSum d t heads o l → ⊥) (both : AreTouched d t (class_of s) o k l) → IsLive d t heads s o both.columns both.solution → AreTold d t s k l) a.operator
               (apart_where_touched past a.entry a.listed k l) mk ml nk nl both live
       asked_on_touched near (Some p) h = pair_question (AreAllPast r s (IsNotedIn d heads) bases) p h

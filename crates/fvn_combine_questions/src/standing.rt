@@ -1,9 +1,15 @@
-//! Which classes may be constants of an operator, which are noted as sums by it, and which have different heads.
-ghost use Rattle.std.specs.Prelude.{◌≡◌, ◌↔◌, ◌<◌, length, slice_index_or, None, Some, IsTrue};
+//! Which classes may be constants of an operator, which are noted as sums by it, which are one summand in its sums, and
+//! which have different heads.
+ghost use Rattle.std.specs.Prelude.{◌≡◌, ◌↔◌, ◌<◌, length, slice_index_or, None, Some, All, IsTrue};
 ghost use Rattle.fvn_combine_leaves.specs.Users.{IsWholeSums, IsWhole, CanBeConstant, HaveHeads};
-ghost use Rattle.fvn_combine_questions.specs.inner.Touched.{IsNotedIn, HasOtherHead};
+ghost use Rattle.fvn_combine_questions.specs.inner.Touched.{
+  IsNotedIn,
+  HasOtherHead,
+  HasNotedUser,
+  IsOneSummandIn,
+};
 
-use fvn_combine_leaves::{Reading, Sums, has_two_users, is_user};
+use fvn_combine_leaves::{Reading, Sums, has_two_users, is_shared, is_user};
 use fvn_combine_nodes::has_no_identity;
 use fvn_signature::Signature;
 use fvn_terms::OpId;
@@ -60,7 +66,7 @@ pub(crate) fn is_noted_sum(sig: &Signature, heads: &[Option<OpId>], f: OpId, k: 
 }
 
 // Whether another operator than that of the sums heads the class.
-pub(crate) fn has_other_head(reading: &Reading, n: usize, sums: &Sums, k: usize) -> bool
+fn has_other_head(reading: &Reading, n: usize, sums: &Sums, k: usize) -> bool
     requires whole { IsWhole n reading.now }
     requires within { k < n }
     ensures { IsTrue result → HasOtherHead reading.now sums.now k }
@@ -70,6 +76,57 @@ pub(crate) fn has_other_head(reading: &Reading, n: usize, sums: &Sums, k: usize)
         None => false,
         Some(own) => own != sums.operator,
     }
+}
+
+// Whether another operator than f of these sums uses class k, and is noted of it as a sum.
+fn has_noted_user(
+    sig: &Signature,
+    sums: &[Sums],
+    heads: &[Option<OpId>],
+    n: usize,
+    f: OpId,
+    k: usize,
+) -> bool
+    requires whole { All (IsWholeSums n) sums.now }
+    ensures { IsTrue result → HasNotedUser sums.now f (IsNotedIn sig.now heads.now) k }
+{
+    let _nodes = n;
+    for s in sums {
+        if s.operator == f {
+            continue;
+        }
+        if !is_user(s, k) {
+            continue;
+        }
+        if is_noted_sum(sig, heads, s.operator, k) {
+            return true;
+        }
+    }
+    false
+}
+
+// Whether another operator than that of the sums heads the class, or it is shared, and another one that uses it is noted of
+// it as a sum.
+pub(crate) fn is_one_summand(
+    sig: &Signature,
+    reading: &Reading,
+    heads: &[Option<OpId>],
+    n: usize,
+    sums: &Sums,
+    k: usize,
+) -> bool
+    requires whole { IsWhole n reading.now }
+    requires within { k < n }
+    ensures { IsTrue result
+        → IsOneSummandIn reading.now sums.now (IsNotedIn sig.now heads.now) k }
+{
+    if has_other_head(reading, n, sums, k) {
+        return true;
+    }
+    if !is_shared(reading, n, k) {
+        return false;
+    }
+    has_noted_user(sig, reading.sums.as_slice(), heads, n, sums.operator, k)
 }
 
 // Whether different operators head the classes.

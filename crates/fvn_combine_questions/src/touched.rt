@@ -3,10 +3,11 @@
 //!
 //! A solution that is taken stands for one summand. Where two classes that it has are single summands and are known to
 //! differ, it is never taken, so that nothing is asked of it; nor is anything asked of classes that are noted as sums by the
-//! operator, which are never constants of it.
-ghost use Rattle.std.specs.Prelude.{◌≡◌, ◌↔◌, ◌<◌, length, slice_index, IsTrue, IsFalse};
+//! operator, which are never constants of it. Single summands are asked of first: the answers tell which solutions are never
+//! taken.
+ghost use Rattle.std.specs.Prelude.{◌≡◌, ◌↔◌, ◌<◌, length, slice_index, IfSome, IsTrue, IsFalse};
 ghost use Rattle.fvn_combine_nodes.specs.States.{IsNaming, IsOpen};
-ghost use Rattle.fvn_combine_questions.specs.inner.Past.{IsOpenPairOr};
+ghost use Rattle.fvn_combine_questions.specs.inner.Past.{IsOpenPair, IsOpenPairOr};
 ghost use Rattle.fvn_combine_leaves.specs.Users.{IsWholeSums, IsWhole};
 ghost use Rattle.fvn_combine_questions.specs.inner.Touched.{
   AreWide,
@@ -24,7 +25,7 @@ ghost use Rattle.fvn_combine_questions.specs.inner.Touched.{
 };
 
 use crate::backwards::backwards;
-use crate::standing::{has_other_head, have_two_heads, is_noted_sum, may_be_constant};
+use crate::standing::{have_two_heads, is_noted_sum, is_one_summand, may_be_constant};
 use fvn_base::Seq;
 use fvn_combine_leaves::{Reading, Sums, is_user};
 use fvn_combine_nodes::State;
@@ -67,12 +68,21 @@ fn stands(
 }
 
 // Whether the solution has column i, whose class is a single summand.
-fn is_single(reading: &Reading, n: usize, sums: &Sums, v: &Solution, i: usize) -> bool
+fn is_single(
+    sig: &Signature,
+    reading: &Reading,
+    heads: &[Option<OpId>],
+    n: usize,
+    sums: &Sums,
+    v: &Solution,
+    i: usize,
+) -> bool
     requires whole { IsWhole n reading.now }
     requires sums { IsWholeSums n sums.now }
     requires wide { length v.now.parts ≡ length sums.now.columns }
     requires within { i < length sums.now.columns }
-    ensures { IsTrue result → IsSingleIn reading.now sums.now v.now i }
+    ensures { IsTrue result
+        → IsSingleIn reading.now sums.now (IsNotedIn sig.now heads.now) v.now i }
 {
     let columns = sums.columns.as_slice();
     if !has_column(v, i) {
@@ -81,7 +91,7 @@ fn is_single(reading: &Reading, n: usize, sums: &Sums, v: &Solution, i: usize) -
     if !is_user(sums, columns[i]) {
         return false;
     }
-    has_other_head(reading, n, sums, columns[i])
+    is_one_summand(sig, reading, heads, n, sums, columns[i])
 }
 
 // Whether heads tell the classes of columns i and j apart, or it is not open whether they are one.
@@ -103,20 +113,29 @@ pub(crate) fn are_told(state: &State, reading: &Reading, sums: &Sums, i: usize, 
 }
 
 // Whether the solution has column i and one before it, whose classes are single summands and told apart.
-fn is_dead_at(state: &State, reading: &Reading, sums: &Sums, v: &Solution, i: usize) -> bool
+fn is_dead_at(
+    sig: &Signature,
+    state: &State,
+    reading: &Reading,
+    heads: &[Option<OpId>],
+    sums: &Sums,
+    v: &Solution,
+    i: usize,
+) -> bool
     requires naming { IsNaming state.now }
     requires reading { IsWhole (length state.now.names) reading.now }
     requires sums { IsWholeSums (length state.now.names) sums.now }
     requires wide { length v.now.parts ≡ length sums.now.columns }
     requires within { i < length sums.now.columns }
-    ensures { IsTrue result → IsDeadAt reading.now sums.now state.now v.now i }
+    ensures { IsTrue result
+        → IsDeadAt reading.now sums.now state.now (IsNotedIn sig.now heads.now) v.now i }
 {
     let n = state.names.len();
-    if !is_single(reading, n, sums, v, i) {
+    if !is_single(sig, reading, heads, n, sums, v, i) {
         return false;
     }
     for j in 0..i {
-        if !is_single(reading, n, sums, v, j) {
+        if !is_single(sig, reading, heads, n, sums, v, j) {
             continue;
         }
         if are_told(state, reading, sums, i, j) {
@@ -127,15 +146,23 @@ fn is_dead_at(state: &State, reading: &Reading, sums: &Sums, v: &Solution, i: us
 }
 
 // Whether the solution stands for no summand, by what is known of single summands.
-fn is_dead(state: &State, reading: &Reading, sums: &Sums, v: &Solution) -> bool
+fn is_dead(
+    sig: &Signature,
+    state: &State,
+    reading: &Reading,
+    heads: &[Option<OpId>],
+    sums: &Sums,
+    v: &Solution,
+) -> bool
     requires naming { IsNaming state.now }
     requires reading { IsWhole (length state.now.names) reading.now }
     requires sums { IsWholeSums (length state.now.names) sums.now }
     requires wide { length v.now.parts ≡ length sums.now.columns }
-    ensures { IsTrue result → IsDead reading.now sums.now state.now v.now }
+    ensures { IsTrue result
+        → IsDead reading.now sums.now state.now (IsNotedIn sig.now heads.now) v.now }
 {
     for i in 0..sums.columns.len() {
-        if is_dead_at(state, reading, sums, v, i) {
+        if is_dead_at(sig, state, reading, heads, sums, v, i) {
             return true;
         }
     }
@@ -175,8 +202,37 @@ fn open_column(
     None
 }
 
-// A question whether two classes are one that the solution has and that may be constants of the operator: the last
-// columns first.
+// A question whether the class of a column that is a single summand is another one that the solution has and that may be a
+// constant.
+fn open_single(
+    sig: &Signature,
+    state: &State,
+    reading: &Reading,
+    heads: &[Option<OpId>],
+    sums: &Sums,
+    v: &Solution,
+) -> Option<(usize, usize)>
+    requires naming { IsNaming state.now }
+    requires reading { IsWhole (length state.now.names) reading.now }
+    requires sums { IsWholeSums (length state.now.names) sums.now }
+    requires wide { length v.now.parts ≡ length sums.now.columns }
+    ensures { IfSome result (IsOpenPair state.now) }
+{
+    let n = state.names.len();
+    for i in 0..sums.columns.len() {
+        if !is_single(sig, reading, heads, n, sums, v, i) {
+            continue;
+        }
+        match open_column(sig, state, reading, heads, sums, v, i) {
+            None => {}
+            Some(pair) => return Some(pair),
+        }
+    }
+    None
+}
+
+// A question whether two classes are one that the solution has and that may be constants of the operator: single summands
+// first, then the last columns.
 fn open_solution(
     sig: &Signature,
     state: &State,
@@ -193,8 +249,12 @@ fn open_solution(
         (IsPastSolution reading.now sums.now state.now (IsNotedIn sig.now heads.now) v.now)
         result }
 {
-    if is_dead(state, reading, sums, v) {
+    if is_dead(sig, state, reading, heads, sums, v) {
         return None;
+    }
+    match open_single(sig, state, reading, heads, sums, v) {
+        None => {}
+        Some(pair) => return Some(pair),
     }
     let n = state.names.len();
     let count = sums.columns.len();

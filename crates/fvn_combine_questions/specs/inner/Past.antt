@@ -9,10 +9,14 @@ use Rattle.fvn_combine_leaves.specs.declared.reading.Sums.{Sums}
 use Rattle.fvn_combine_leaves.specs.declared.reading.Reading.{Reading}
 use Rattle.fvn_combine_leaves.specs.Users.{IsMarked, HasTwinIn, CanBeConstant, HaveHeads}
 
+-- it is open whether the two nodes are in one class
+abbrev pub IsOpenPair : State → (ℕ × ℕ) → Type 0
+IsOpenPair s p = (p.0 < length s.names) × (p.1 < length s.names) × IsOpen s p.0 p.1
+
 -- an open pair of nodes; where there is none, the fact holds
 abbrev pub IsOpenPairOr : State → Type 0 → Option (ℕ × ℕ) → Type 0
 IsOpenPairOr s P None = P
-IsOpenPairOr s P (Some p) = (p.0 < length s.names) × (p.1 < length s.names) × IsOpen s p.0 p.1
+IsOpenPairOr s P (Some p) = IsOpenPair s p
 
 -- it is not open whether class k has f's identity
 abbrev pub IsPastIdentity : NodeTable → State → OpId → ℕ → Type 0

@@ -17,7 +17,7 @@ loop-step-preserved c =
     let r = c.args.reading.now in
     let e = c.args.sums.now in
     more_above (λ i. StandsIn r e (IsNotedIn c.args.sig.now c.args.heads.now) c.args.v.now i → ArePastColumns r e c.args.state.now (IsNotedIn c.args.sig.now c.args.heads.now) c.args.v.now i) (length e.columns) c.loop-step.step c.backwards-i.result (c.backwards-i.ensures ∙ c.len-count.ensures) c.loop-step.invariant
-    (λ own. c.in-None.ensures)
+    (λ own. c.in-None-open_column.ensures)
 
 pub returns-then-is_dead : goal.returns-then-is_dead
 returns-then-is_dead c = inl (c.is_dead.ensures c.if-is_dead.true)
