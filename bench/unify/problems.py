@@ -88,11 +88,20 @@ def solved_sums(count):
     return " /\\ ".join(f"Z{i}:S =? _*_(_&_(V{i}:S, W{i}:S), _*_(_&_(X{i}:S, Y{i}:S), _&_(U{i}:S, b)))" for i in range(1, count + 1))
 
 
-def sums_in_turn(depth):
-    """Sums by two operators in one another, so deep."""
+def sums_in_turn(depth, above="_*_", below="_&_", letters="XVW"):
+    """Sums by two operators in one another, so deep: in each a variable below and a summand beside it that has a constant."""
+    x, v, w = letters
+    term = f"{x}:S"
+    for i in range(1, depth + 1):
+        term = f"{above}({below}({term}, {v}{i}:S), {below}(a, {w}{i}:S))"
+    return term
+
+
+def thin_sums_in_turn(depth, above, below):
+    """The same with a variable in place of the summand that has a constant."""
     term = "X:S"
     for i in range(1, depth + 1):
-        term = f"_*_(_&_({term}, V{i}:S), _&_(a, W{i}:S))"
+        term = f"{above}({below}({term}, V{i}:S), W{i}:S)"
     return term
 
 
@@ -158,6 +167,14 @@ FAMILIES = [
     ("sums below sums, other rests", "identities", {n: sums_below_sums(n, "other") for n in (1, 2, 3)}),
     ("a tower beside a step", "identities", {n: f"c(Z:S, a) =? c({sums_in_turn(n)}, a)" for n in (2, 3, 4)}),
     ("a tower against a sum", "identities", {n: f"_&_(Z:S, Y:S) =? {sums_in_turn(n)}" for n in (2, 3)}),
+    ("a tower of + against +", "identities", {n: f"_+_(Z:S, Y:S) =? {sums_in_turn(n, '_+_', '_&_')}" for n in (2, 3, 4)}),
+    ("a tower of + against &", "identities", {n: f"_&_(Z:S, Y:S) =? {sums_in_turn(n, '_+_', '_&_')}" for n in (2, 3, 4)}),
+    ("a tower of + against *", "identities", {n: f"_*_(Z:S, Y:S) =? {sums_in_turn(n, '_+_', '_&_')}" for n in (2, 3, 4, 5)}),
+    ("towers of + against the like", "identities", {n: f"{sums_in_turn(n, '_+_', '_&_')} =? {sums_in_turn(n, '_+_', '_&_', 'UAB')}" for n in (1, 2, 3)}),
+    ("a sum against a tower beside a variable", "identities", {n: f"_*_(Z:S, b) =? _*_({sums_in_turn(n, '_&_', '_*_')}, Y:S)" for n in (2, 3, 4)}),
+    ("a sum against a thin tower beside a variable", "identities", {n: f"_*_(Z:S, b) =? _*_({thin_sums_in_turn(n, '_&_', '_*_')}, Y:S)" for n in (2, 3, 4)}),
+    ("a thin tower against a sum with a term", "identities", {n: f"_*_(Z:S, g(Y:S)) =? {thin_sums_in_turn(n, '_*_', '_&_')}" for n in (2, 3, 4)}),
+    ("a tower against a term", "identities", {n: f"g(Z:S) =? {sums_in_turn(n, '_&_', '_*_')}" for n in (2, 3, 4, 5)}),
     ("choices beside each other", "processes", {1: "_|_(_+_(_|_(P:P, Q:P), R:P), P:P) =? _|_(_+_(_|_(Q:P, R:P), P:P), R:P)"}),
     ("bags that are not empty", "fruit", {n: f"{over('_;_', variables('N', 3, 'Ne'))} =? {over('_;_', variables('F', n, 'Fruit'))}" for n in (3, 4, 5)}),
     ("places", "places", {

@@ -43,11 +43,11 @@ search A0 = A0 h A1 l => few | 1 1
 search A0 = A1 f n; A1 = A0 f k => few | 1 0
 search A0 = A1 o h l; A1 = A0 f m => few | 1 0
 search A0 = A1 o h l; A1 = A2 f m; A2 = A0 f l => few | 1 0
-search A0 A1 l A2 m = A0 A2 l A1 m => few | 24 11
-search A0 A1 l A2 m A0 l = A2 A1 l A0 m A1 l => few | 32 8
+search A0 A1 l A2 m = A0 A2 l A1 m => few | 24 10
+search A0 A1 l A2 m A0 l = A2 A1 l A0 m A1 l => few | 19 6
 search A0 A1 k h A2 l = f h h A3 l => few | 2 1
 search A0 A1 k = A2 f k; A0 A3 l = A4 f l => few | 3 11
-search A0 A1 l A2 m A3 l = f => few | 9 6";
+search A0 A1 l A2 m A3 l = f => few | 7 4";
 
 // The same over sums that are not neutral, with elements: an element is one summand at most. Six elements are split in
 // two in 64 ways, of which each is a choice, and nothing is asked: a row with no room shows both numbers as they are.
@@ -81,15 +81,15 @@ search A0 A0 h A1 i = A2 A3 i => few | 1 2
 search A0 A0 h A1 A1 h A2 i i = A3 A4 i => few | 1 4
 search A0 A0 h A1 A1 h A2 A2 h A3 i i i = A4 A5 i => few | 1 8
 search A0 A0 h A1 A1 h A2 A2 h A3 A3 h A4 i i i i = A5 A6 i => few | 1 16
-search A0 A0 h = A1 A1 i => few | 1 0
+search A0 A0 h = A1 A1 i => few | 3 0
 search A0 A1 h A2 i = A3 A4 i => few | 1 8
-search A0 A1 h = A0 A2 i => few | 3 5
+search A0 A1 h = A0 A2 i => few | 5 3
 search A0 A1 h A0 i = A1 => few | 7 3
 search A0 A1 h A0 i = A2 A3 i => few | 3 23
 search A0 A1 h A2 i = A0 A2 h A1 i => few | 8 26
 search A0 A1 h A2 A3 h i A0 i = A0 A2 h A1 A3 h i A1 i => few | 119 142
 search A0 A1 i A2 h A3 i = A2 A3 i A0 h A1 i => few | 53 119
-search A0 A1 A2 i h A1 A0 A3 i h i = A2 A3 i => few | 79 108";
+search A0 A1 A2 i h A1 A0 A3 i h i = A2 A3 i => few | 71 100";
 
 #[test]
 fn searches_stay_short(rt: HostRuntime) -> Result<(), NoMemory> {
@@ -101,26 +101,47 @@ fn searches_stay_short(rt: HostRuntime) -> Result<(), NoMemory> {
 
 // Bags of a term and of a sum with an identity that adds a constant, which is so the constant or a sum, and not the term: the
 // same one within another, where the constant is the last of three that are added, and bags of two such sums.
-const SEARCHED_OF_HEADS: &str = "search A0 h f A1 l k = A2 h f A3 l k => few | 3 2
-search A0 h f A1 l k h f A4 l k = A2 h f A3 l k h f A5 l k => few | 9 5
-search A0 h A1 A2 f l l k = A3 h A4 A5 f l l k => few | 3 2
-search f A1 l o A2 m k = f A3 l o A4 m k => few | 7 4";
+const SEARCHED_OF_HEADS: &str = "search A0 h f A1 l k = A2 h f A3 l k => few | 1 1
+search A0 h f A1 l k h f A4 l k = A2 h f A3 l k h f A5 l k => few | 1 1
+search A0 h A1 A2 f l l k = A3 h A4 A5 f l l k => few | 1 1
+search f A1 l o A2 m k = f A3 l o A4 m k => few | 1 1";
 
-// One sort A; constants f, g and j, a sum h with the identity f, a sum i with the identity g, a sum k with none, and a
-// free operator l.
+// One sort A; constants f, g and j, a sum h with the identity f, a sum i with the identity g, a sum k with none, and free
+// operators l and m.
 const SUMS: &str =
-    "A; f : -> A; g : -> A; h : A A -> A [assoc comm id: f]; i : A A -> A [assoc comm id: g]; j : -> A; k : A A -> A [assoc comm]; l : A -> A";
+    "A; f : -> A; g : -> A; h : A A -> A [assoc comm id: f]; i : A A -> A [assoc comm id: g]; j : -> A; k : A A -> A [assoc comm]; l : A -> A; m : A A -> A";
 
 // Sums of two products below a free operator, one product with the same within it, and one variable on both sides: what is
 // known to be a sum is no constant of its operator, so that nothing is asked of it.
 const SEARCHED_OF_SUMS: &str =
-    "general j A1 i j A0 i A2 A3 i h l A3 i h l = j A4 i j A5 i A6 A3 i h l A3 i h l => few | 107 50
+    "general j A1 i j A0 i A2 A3 i h l A3 i h l = j A4 i j A5 i A6 A3 i h l A3 i h l => few | 31 13
 100 200 j A1 i j A0 i A2 A3 i h l A3 i h l = j A4 i j A5 i A6 A3 i h l A3 i h l => complete 5";
+
+// Towers: a sum below another one, beside a summand with a constant, and this put into itself. Those of k over h against a
+// sum of two variables by i, which they lack, with two and three levels, by k, and against the like; those of i over h against
+// one by h, and beside a variable against a sum with a term; those of h over i against a term. A class with members of two
+// operators is one of its parts, and that is asked at once; one with a member of an operator is taken as a sum by it, so that it
+// is asked of no two of them whether they are the same constant. All numbers of unifiers are Maude's.
+const TOWERS: &str = "general A0 A1 h j A2 h k A3 h j A4 h k = A5 A6 i => few | 3 2
+general A0 A1 h j A2 h k A3 h j A4 h k A5 h j A6 h k = A7 A8 i => few | 3 2
+general A0 A1 h j A2 h k A3 h j A4 h k = A5 A6 k => few | 3 48
+general A0 A1 h j A2 h k A3 h j A4 h k = A5 A6 h j A7 h k A8 h j A9 h k => few | 61 145
+general A0 A1 h j A2 h i A3 h j A4 h i = A5 A6 h => few | 13 2
+general A0 A1 h j A2 h i A3 h j A4 h i A5 i = A6 j l i => few | 9 16
+general A0 A1 i j A2 i h A3 i j A4 i h A5 i j A6 i h = A7 l => few | 1 0
+100 200 A0 A1 h j A2 h k A3 h j A4 h k = A5 A6 i => complete 2 | A0 A1 m A2 m A3 m A4 m A5 m A6 m = A0 A1 m A2 m A3 m A4 m j A4 h A3 j A2 h A0 A1 h k h k m g m; A0 A1 m A2 m A3 m A4 m A5 m A6 m = A0 A1 m A2 m A3 m A4 m g m j A4 h A3 j A2 h A0 A1 h k h k m
+100 200 A0 A1 h j A2 h k A3 h j A4 h k A5 h j A6 h k = A7 A8 i => complete 2
+100 200 A0 A1 h j A2 h k A3 h j A4 h k = A5 A6 k => complete 14
+100 200 A0 A1 h j A2 h k A3 h j A4 h k = A5 A6 h j A7 h k A8 h j A9 h k => complete 44
+100 200 A0 A1 h j A2 h i A3 h j A4 h i = A5 A6 h => complete 2
+100 200 A0 A1 h j A2 h i A3 h j A4 h i A5 i = A6 j l i => complete 3 | A0 A1 m A2 m A3 m A4 m A5 m A6 m = A0 A1 m A2 m A3 m A4 m A5 j l i m A5 j A4 h i A3 j A2 h A0 A1 h i h i m; A0 A1 m A2 m A3 m A4 m A5 m A6 m = A0 j l i f m A1 m f m A2 m A3 m A3 A0 i j A2 h i j A1 h i m; A0 A1 m A2 m A3 m A4 m A5 m A6 m = f A0 j l i m A1 m f m A2 m A3 m A3 A0 i j A2 h i j A1 h i m
+100 200 A0 A1 i j A2 i h A3 i j A4 i h A5 i j A6 i h = A7 l => complete 0";
 
 #[test]
 fn possible_heads_are_seen(rt: HostRuntime) -> Result<(), NoMemory> {
     assert_rows(&rt, rt.alloc(), OPERATORS, SEARCHED_OF_HEADS)?;
-    assert_rows(&rt, rt.alloc(), SUMS, SEARCHED_OF_SUMS)
+    assert_rows(&rt, rt.alloc(), SUMS, SEARCHED_OF_SUMS)?;
+    assert_rows(&rt, rt.alloc(), SUMS, TOWERS)
 }
 
 // Problems that are solved as they stand, beside each other and one within another: each has one most general unifier,
