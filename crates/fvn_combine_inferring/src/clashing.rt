@@ -296,7 +296,7 @@ fn least_clash(sig: &Signature, table: &Table, state: &State, known: &Known) -> 
 }
 
 // What a clash says: where it counts no node, nothing goes with the state; one that it counts alone has the value; and
-// whether the first of several has it is worth asking.
+// whether the first of two has it is worth asking. Of more nothing is asked: too few of the answers tell anything.
 fn clash_told(
     sig: &Signature,
     table: &Table,
@@ -313,6 +313,9 @@ fn clash_told(
     }
     if clash.number == 1 {
         return met(sig, table, state, known.sorted, clash.node, clash.first);
+    }
+    if clash.number > 2 {
+        return Inferred::Nothing;
     }
     if state.is_open(clash.node, clash.first) {
         return Inferred::Question(clash.node, clash.first);
