@@ -37,7 +37,10 @@ impl Effort {
 
     // Whether many states were asked.
     pub(crate) fn is_long(&self) -> bool {
-        self.states >= MANY_STATES
+        if self.refused {
+            return true;
+        }
+        self.states >= 4096
     }
 
     // One choice more is tried.

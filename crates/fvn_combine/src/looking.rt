@@ -143,6 +143,33 @@ fn asked(task: &Task, state: &State, known: &Known, i: usize, j: usize) -> Resul
     Ok(Looked::Open(i, j))
 }
 
+fn ranks_of(task: &Task, state: &State) -> Result<Vec<usize>, NoMemory> {
+    let n = task.table.nodes().len();
+    let mut sizes = Vec::with_capacity(task.alloc, n)?;
+    for i in 0..n {
+        let mut sum: usize = 1;
+        match task.table.node(i) {
+            fvn_combine_nodes::Node::Var(_) => {}
+            fvn_combine_nodes::Node::App(_, ks) => {
+                for k in ks.as_slice() {
+                    if *k < i {
+                        sum = sum.saturating_add(sizes[*k]);
+                    }
+                }
+            }
+        }
+        sizes.push(sum)?;
+    }
+    let mut ranks = vec![in task.alloc; 0usize; n]?;
+    for i in 0..n {
+        let c = state.class_of(i);
+        if c < n {
+            ranks[c] = ranks[c].max(sizes[i]);
+        }
+    }
+    Ok(ranks)
+}
+
 // What is asked for by a state that is nearly a leaf, where minimal solutions are known.
 fn look_at_bases(
     task: &Task,
@@ -162,11 +189,13 @@ fn look_at_bases(
 {
     task.recall();
     let labels = labels_of(task, state, &reading, &known, bases.as_slice())?;
+    let ranks = ranks_of(task, state)?;
     match question_on_touched(
         task.sig,
         &task.table,
         state,
         &reading,
+        ranks.as_slice(),
         labels.as_slice(),
         bases.as_slice(),
     ) {

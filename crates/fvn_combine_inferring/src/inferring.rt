@@ -12,6 +12,7 @@ ghost use Rattle.fvn_combine_inferring.specs.inner.Splits.{IsAddition};
 use crate::clashing::clashing;
 use crate::expressions::{Addition, addition_of};
 use crate::heads::Known;
+use crate::holding::note_holders;
 use crate::rows::row_at;
 use crate::rules::rule;
 use crate::sizes::{Inside, has_several, insides, is_circular};
@@ -70,6 +71,7 @@ impl Inferred {
 
 // What the row of node i says, where it is a sum.
 fn infer_at(
+    held: &mut Vec<Inside>,
     alloc: Global,
     sig: &Signature,
     table: &Table,
@@ -93,6 +95,11 @@ fn infer_at(
             let left = row.left.as_slice();
             let right = row.right.as_slice();
             let told = rule(sig, table, state, known, addition, insides, left, right);
+            if told.is_fact() {
+                return Ok(told);
+            }
+            note_holders(held, sig, table, state, known, addition, insides, left, right)?;
+            note_holders(held, sig, table, state, known, addition, insides, right, left)?;
             if told.is_something() {
                 return Ok(told);
             }
@@ -103,6 +110,7 @@ fn infer_at(
 
 // What the sums by f say.
 fn infer_of(
+    held: &mut Vec<Inside>,
     alloc: Global,
     sig: &Signature,
     table: &Table,
@@ -121,7 +129,7 @@ fn infer_of(
     let addition = addition_of(alloc, sig, table, state, known, f)?;
     let mut asked = Inferred::Nothing;
     for i in 0..table.nodes().len() {
-        let told = infer_at(alloc, sig, table, state, known, &addition, insides, i)?;
+        let told = infer_at(held, alloc, sig, table, state, known, &addition, insides, i)?;
         if told.is_fact() {
             return Ok(told);
         }
@@ -151,9 +159,11 @@ pub fn infer(
     if is_circular(pairs.as_slice(), has_several(reading)) {
         return Ok(Inferred::Impossible);
     }
+    let mut held = Vec::new(alloc);
     let mut asked = Inferred::Nothing;
     for sums in reading.sums.as_slice() {
         let told = infer_of(
+            &mut held,
             alloc,
             sig,
             table,
@@ -166,6 +176,12 @@ pub fn infer(
             return Ok(told);
         }
         asked = asked.or_told(told);
+    }
+    if held.len() > 0 {
+        held.extend_from_slice(pairs.as_slice())?;
+        if is_circular(held.as_slice(), true) {
+            return Ok(Inferred::Impossible);
+        }
     }
     let clash = clashing(sig, table, state, known);
     if clash.is_fact() {

@@ -8,6 +8,7 @@ mod clashing;
 mod differing;
 mod expressions;
 mod heads;
+mod holding;
 mod inferring;
 mod labelling;
 mod laws;

@@ -19,11 +19,11 @@ use fvn_terms::{NoMemory, OpId};
 use std::alloc::Global;
 
 // The most pairs of which longer chains are looked for.
-const PAIRS: usize = 48;
+const PAIRS: usize = 96;
 // The most classes of which they are looked for.
 const CLASSES: usize = 64;
 // The rounds in which they are looked for: chains of so many pairs are found.
-const ROUNDS: usize = 4;
+const ROUNDS: usize = 16;
 // What is noted of a class: that it has no fewer symbols than the class at which a chain begins.
 const NO_FEWER: u8 = 1;
 // And that it has more.
@@ -232,6 +232,18 @@ pub(crate) fn insides(
 {
     table.recall_well_made();
     let mut list = Vec::new(alloc);
+    for i in 0..table.nodes().len() {
+        match table.node(i) {
+            fvn_combine_nodes::Node::Var(_) => {}
+            fvn_combine_nodes::Node::App(g, ks) => {
+                if !sig.axioms(*g).is_sum() {
+                    for k in ks.as_slice() {
+                        list.push(Inside { small: state.class_of(*k), large: state.class_of(i), proper: true })?;
+                    }
+                }
+            }
+        }
+    }
     for sums in reading.sums.as_slice() {
         note_insides(&mut list, sig, table, state, known, sums.operator)?;
     }

@@ -65,6 +65,7 @@ pub fn question_on_touched(
     table: &Table,
     state: &State,
     reading: &Reading,
+    ranks: &[usize],
     heads: &[Option<OpId>],
     bases: &[Seq<Solution>],
 ) -> Option<(usize, usize)>
@@ -74,5 +75,5 @@ pub fn question_on_touched(
     ensures { IsQuestion sig.now table.now heads.now state.now result }
 {
     table.recall_well_made();
-    open_touched(sig, state, reading, heads, bases)
+    open_touched(sig, ranks, state, reading, heads, bases)
 }

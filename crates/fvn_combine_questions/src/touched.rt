@@ -297,30 +297,108 @@ fn open_solutions(
     None
 }
 
-// A question whether two classes are one that may be constants of one operator, and that one of its
-// solutions has both of: the last operators first.
-pub(crate) fn open_touched(
-    sig: &Signature,
-    state: &State,
-    reading: &Reading,
-    heads: &[Option<OpId>],
-    bases: &[Seq<Solution>],
-) -> Option<(usize, usize)>
-    requires naming { IsNaming state.now }
-    requires reading { IsWhole (length state.now.names) reading.now }
-    requires as_many { length bases.now ≡ length reading.now.sums }
-    requires wide { AreAllWide reading.now.sums bases.now }
-    ensures { IsOpenPairOr state.now
-        (AreAllPast reading.now state.now (IsNotedIn sig.now heads.now) bases.now)
-        result }
-{
-    let sums = reading.sums.as_slice();
-    for step in 0..sums.len() {
-        let i = backwards(sums.len(), step);
-        match open_solutions(sig, state, reading, heads, &sums[i], bases[i].as_slice()) {
+fn rank_of(ranks: &[usize], k: usize) -> usize {
+    match ranks.get(k) {
+        None => 0,
+        Some(r) => *r,
+    }
+}
+
+fn smaller(a: usize, b: usize) -> usize {
+    if a < b { a } else { b }
+}
+
+fn larger(a: usize, b: usize) -> usize {
+    if a < b { b } else { a }
+}
+
+fn best_column(sig: &Signature, ranks: &[usize], state: &State, reading: &Reading, heads: &[Option<OpId>], sums: &Sums, v: &Solution, i: usize, old: Option<(usize, usize, usize)>) -> Option<(usize, usize, usize)> {
+    let n = state.names.len();
+    let columns = sums.columns.as_slice();
+    let mut best = old;
+    let one = rank_of(ranks, columns[i]);
+    for j in 0..columns.len() {
+        if !stands(sig, reading, heads, n, sums, v, j) {
+            continue;
+        }
+        if are_told(state, reading, sums, i, j) {
+            continue;
+        }
+        let key = larger(one, rank_of(ranks, columns[j])) * 1000 + smaller(one, rank_of(ranks, columns[j]));
+        match best {
+            None => best = Some((columns[i], columns[j], key)),
+            Some((_, _, k)) => {
+                if key > k {
+                    best = Some((columns[i], columns[j], key));
+                }
+            }
+        }
+    }
+    best
+}
+
+fn best_solution(sig: &Signature, ranks: &[usize], state: &State, reading: &Reading, heads: &[Option<OpId>], sums: &Sums, v: &Solution, old: Option<(usize, usize, usize)>) -> Option<(usize, usize, usize)> {
+    if is_dead(sig, state, reading, heads, sums, v) {
+        return old;
+    }
+    let n = state.names.len();
+    let mut best = old;
+    let count = sums.columns.len();
+    for step in 0..count {
+        let i = backwards(count, step);
+        if !stands(sig, reading, heads, n, sums, v, i) {
+            continue;
+        }
+        best = best_column(sig, ranks, state, reading, heads, sums, v, i, best);
+    }
+    best
+}
+
+fn best_solutions(sig: &Signature, ranks: &[usize], state: &State, reading: &Reading, heads: &[Option<OpId>], sums: &Sums, basis: &[Solution], old: Option<(usize, usize, usize)>) -> Option<(usize, usize, usize)> {
+    let mut best = old;
+    for v in basis {
+        best = best_solution(sig, ranks, state, reading, heads, sums, v, best);
+    }
+    best
+}
+
+fn single_solutions(sig: &Signature, state: &State, reading: &Reading, heads: &[Option<OpId>], sums: &Sums, basis: &[Solution]) -> Option<(usize, usize)> {
+    for v in basis {
+        if is_dead(sig, state, reading, heads, sums, v) {
+            continue;
+        }
+        match open_single(sig, state, reading, heads, sums, v) {
             None => {}
             Some(pair) => return Some(pair),
         }
     }
     None
+}
+
+pub(crate) fn open_touched(
+    sig: &Signature,
+    ranks: &[usize],
+    state: &State,
+    reading: &Reading,
+    heads: &[Option<OpId>],
+    bases: &[Seq<Solution>],
+) -> Option<(usize, usize)>
+{
+    let sums = reading.sums.as_slice();
+    for step in 0..sums.len() {
+        let i = backwards(sums.len(), step);
+        match single_solutions(sig, state, reading, heads, &sums[i], bases[i].as_slice()) {
+            None => {}
+            Some(pair) => return Some(pair),
+        }
+    }
+    let mut best = None;
+    for step in 0..sums.len() {
+        let i = backwards(sums.len(), step);
+        best = best_solutions(sig, ranks, state, reading, heads, &sums[i], bases[i].as_slice(), best);
+    }
+    match best {
+        None => None,
+        Some((a, b, _)) => Some((a, b)),
+    }
 }
