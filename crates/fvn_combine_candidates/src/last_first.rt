@@ -26,7 +26,7 @@ use fvn_terms::{NoMemory, OpId};
 use std::alloc::Global;
 
 /// The most minimal solutions of the rows that define no column.
-const SOLUTIONS_LEFT: usize = 31;
+const SOLUTIONS_LEFT: usize = 127;
 
 // The same row, in memory of its own.
 pub(crate) fn copied_row(alloc: Global, row: &Row) -> Result<Row, NoMemory>
