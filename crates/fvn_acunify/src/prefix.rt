@@ -2,7 +2,7 @@
 ghost use Rattle.std.specs.Prelude.{◌≡◌, ◌↔◌, ℕ, ◌+◌, ◌^◌, ◌<◌, ◌≤◌, length, slice_index, slice_index_or, true, false, All, IsTrue, IfSome, IfNone};
 ghost use Rattle.fvn_lindio.specs.Systems.{vectors_of};
 ghost use Rattle.fvn_acunify.specs.ValidChoice.{IsListed, touched};
-ghost use Rattle.fvn_acunify.specs.inner.Prefix.{AreBoundsOpen, CanBeFilled, CanBeOne, IsBounded, IsDead, IsOpen};
+ghost use Rattle.fvn_acunify.specs.inner.Prefix.{AreBoundsOpen, CanBeFilled, CanBeOne, IsBounded, IsDead, IsOpen, useful_part};
 
 use crate::theory::ColumnBounds;
 use fvn_lindio::Solution;
@@ -93,21 +93,28 @@ fn is_open(
     requires room { length sums.now ≡ length may_be_zero.now }
     ensures { IsTrue result ↔ IsOpen constants.now may_be_zero.now bounds.now lower.now sums.now }
 {
-    if !are_bounds_open(bounds, lower, sums) {
+    if !are_bounds_open(bounds, constants, lower, sums) {
         return false;
     }
-    are_constants_open(constants, lower, sums) && are_columns_open(may_be_zero, lower, sums)
+    are_constants_open(constants, lower, sums)
+        && are_columns_open(may_be_zero, constants, lower, sums)
 }
 
 /// Whether the bounds can still be kept, with any of the lower solutions.
-fn are_bounds_open(bounds: &ColumnBounds, lower: &[Solution], sums: &[u64]) -> bool
-    requires { All (λ v. length v.parts ≡ length sums.now) lower.now }
-    ensures { IsTrue result ↔ AreBoundsOpen bounds.now lower.now sums.now }
+fn are_bounds_open(
+    bounds: &ColumnBounds,
+    constants: &[usize],
+    lower: &[Solution],
+    sums: &[u64],
+) -> bool
+    requires among { All (λ c. c < length sums.now) constants.now }
+    requires sized { All (λ v. length v.parts ≡ length sums.now) lower.now }
+    ensures { IsTrue result ↔ AreBoundsOpen bounds.now constants.now lower.now sums.now }
 {
     if !are_within(bounds.at_most_one.as_slice(), sums) {
         return false;
     }
-    are_reached(bounds.at_least_one.as_slice(), lower, sums)
+    are_reached(bounds.at_least_one.as_slice(), constants, lower, sums)
 }
 
 /// Whether each of these columns has at most 1.
@@ -124,12 +131,19 @@ fn are_within(at_most_one: &[usize], sums: &[u64]) -> bool
 }
 
 /// Whether each of these columns is above zero, or can be with one of the lower solutions.
-fn are_reached(at_least_one: &[usize], lower: &[Solution], sums: &[u64]) -> bool
-    requires { All (λ v. length v.parts ≡ length sums.now) lower.now }
-    ensures { IsTrue result ↔ All (CanBeFilled lower.now sums.now) at_least_one.now }
+fn are_reached(
+    at_least_one: &[usize],
+    constants: &[usize],
+    lower: &[Solution],
+    sums: &[u64],
+) -> bool
+    requires among { All (λ c. c < length sums.now) constants.now }
+    requires sized { All (λ v. length v.parts ≡ length sums.now) lower.now }
+    ensures { IsTrue result
+        ↔ All (CanBeFilled constants.now lower.now sums.now) at_least_one.now }
 {
     for j in at_least_one {
-        if !is_reached(lower, sums, *j) {
+        if !is_reached(constants, lower, sums, *j) {
             return false;
         }
     }
@@ -137,14 +151,15 @@ fn are_reached(at_least_one: &[usize], lower: &[Solution], sums: &[u64]) -> bool
 }
 
 /// The same of one column; one that there is not cannot be.
-fn is_reached(lower: &[Solution], sums: &[u64], j: usize) -> bool
-    requires { All (λ v. length v.parts ≡ length sums.now) lower.now }
-    ensures { IsTrue result ↔ CanBeFilled lower.now sums.now j }
+fn is_reached(constants: &[usize], lower: &[Solution], sums: &[u64], j: usize) -> bool
+    requires among { All (λ c. c < length sums.now) constants.now }
+    requires sized { All (λ v. length v.parts ≡ length sums.now) lower.now }
+    ensures { IsTrue result ↔ CanBeFilled constants.now lower.now sums.now j }
 {
     if j >= sums.len() {
         return false;
     }
-    is_fillable(lower, sums, j)
+    is_fillable(constants, lower, sums, j)
 }
 
 /// The sum in a column; where there is none, 0.
@@ -161,11 +176,11 @@ fn sum_in(sums: &[u64], j: usize) -> u64
 fn are_constants_open(constants: &[usize], lower: &[Solution], sums: &[u64]) -> bool
     requires among { All (λ c. c < length sums.now) constants.now }
     requires sized { All (λ v. length v.parts ≡ length sums.now) lower.now }
-    ensures { IsTrue result ↔ All (CanBeOne lower.now sums.now) constants.now }
+    ensures { IsTrue result ↔ All (CanBeOne constants.now lower.now sums.now) constants.now }
 {
     for c in constants {
         let sum = sums[*c];
-        if sum > 1 || !is_fillable(lower, sums, *c) {
+        if sum > 1 || !is_fillable(constants, lower, sums, *c) {
             return false;
         }
     }
@@ -173,14 +188,20 @@ fn are_constants_open(constants: &[usize], lower: &[Solution], sums: &[u64]) -> 
 }
 
 /// Whether every column that may not be zero is above zero, or can be.
-fn are_columns_open(may_be_zero: &[bool], lower: &[Solution], sums: &[u64]) -> bool
+fn are_columns_open(
+    may_be_zero: &[bool],
+    constants: &[usize],
+    lower: &[Solution],
+    sums: &[u64],
+) -> bool
     requires room { length sums.now ≡ length may_be_zero.now }
+    requires among { All (λ c. c < length sums.now) constants.now }
     requires sized { All (λ v. length v.parts ≡ length sums.now) lower.now }
     ensures { IsTrue result ↔ ((j : ℕ) → slice_index_or may_be_zero.now j true ≡ false
-        → CanBeFilled lower.now sums.now j) }
+        → CanBeFilled constants.now lower.now sums.now j) }
 {
     for (j, may) in may_be_zero.iter().enumerate() {
-        if !*may && !is_fillable(lower, sums, j) {
+        if !*may && !is_fillable(constants, lower, sums, j) {
             return false;
         }
     }
@@ -188,18 +209,31 @@ fn are_columns_open(may_be_zero: &[bool], lower: &[Solution], sums: &[u64]) -> b
 }
 
 /// Whether a column is above zero, or can be with one of the lower solutions.
-fn is_fillable(lower: &[Solution], sums: &[u64], j: usize) -> bool
+fn is_fillable(constants: &[usize], lower: &[Solution], sums: &[u64], j: usize) -> bool
+    requires among { All (λ c. c < length sums.now) constants.now }
     requires column { j < length sums.now }
     requires sized { All (λ v. length v.parts ≡ length sums.now) lower.now }
-    ensures { IsTrue result ↔ CanBeFilled lower.now sums.now j }
+    ensures { IsTrue result ↔ CanBeFilled constants.now lower.now sums.now j }
 {
     if sums[j] > 0 {
         return true;
     }
     for solution in lower {
-        if solution.parts.as_slice()[j] > 0 {
+        if is_useful(constants, solution.parts.as_slice(), j) {
             return true;
         }
     }
     false
+}
+
+/// Whether a solution is above zero in a column, and may be taken; it may not with two constants.
+fn is_useful(constants: &[usize], parts: &[u32], j: usize) -> bool
+    requires among { All (λ c. c < length parts.now) constants.now }
+    requires column { j < length parts.now }
+    ensures { IsTrue result ↔ (0 < useful_part constants.now j parts.now) }
+{
+    if parts[j] == 0 {
+        return false;
+    }
+    !touches_two(constants, parts)
 }
