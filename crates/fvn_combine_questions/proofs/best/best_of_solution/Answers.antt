@@ -1,5 +1,5 @@
 -- One more column.
-use Rattle.std.proofs.Common.{◌≡◌, ℕ, ◌+◌, ◌<◌, ◌≤◌, length, sym, ◌∙◌, inl, inr, arith}
+use Rattle.std.proofs.Common.{ℕ, ◌+◌, ◌<◌, ◌≤◌, length, sym, ◌∙◌, inl, inr, arith}
 use Rattle.std.proofs.lemmas.Bool.{false≢true}
 use Rattle.fvn_combine_questions.specs.inner.Touched.{IsNotedIn, StandsIn, ArePastColumns, IsPastSolution}
 use Rattle.fvn_combine_questions.proofs.Ranking.{best_before, best_asked, best_weaker, best_above}
