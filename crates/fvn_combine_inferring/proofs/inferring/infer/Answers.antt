@@ -1,7 +1,6 @@
 -- Pairs that make a circle hold of no values; else what is told, or what was asked before.
-use Rattle.std.proofs.Common.{sym, subst, inl, inr}
+use Rattle.std.proofs.Common.{sym, subst}
 use Rattle.std.proofs.lemmas.List.Elements.{All-nil}
-use Rattle.fvn_combine_inferring.specs.Inferred.{IsInferred}
 use Rattle.fvn_combine_inferring.specs.inner.Sizes.{IsSaid, AreSaid, size}
 use Rattle.fvn_combine_inferring.proofs.Sizing.{circular_out}
 use Rattle.fvn_combine_inferring.proofs.inferring.infer.Goals as goal
