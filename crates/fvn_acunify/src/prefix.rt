@@ -81,8 +81,8 @@ fn add(sums: &mut [u64], parts: &[u32])
     }
 }
 
-/// Whether every column that is asked can still get what it has to, with any of the lower solutions:
-/// those in which `changed` is above zero, or which it does not have. The sums are all asked.
+/// Whether every column can still get what is asked, with any of the lower solutions. What it has to
+/// reach is looked at where `changed` is above zero, or has no such column.
 fn is_open(
     constants: &[usize],
     may_be_zero: &[bool],
@@ -265,7 +265,7 @@ fn is_fillable(
     false
 }
 
-/// Whether a vector is above zero in a column, or does not have it.
+/// Whether a vector is above zero in a column, or has no such column.
 fn is_changed(changed: &[u32], j: usize) -> bool
     ensures { IsTrue result ↔ IsChanged changed.now j }
 {

@@ -25,11 +25,11 @@ useful_part constants j v = if nat_lt 1 (touched constants v) then 0 else slice_
 abbrev pub useful_sum : List ℕ → ℕ → List Solution → ℕ
 useful_sum constants j list = sum_by (λ v. useful_part constants j v.parts) list
 
--- a column in which this vector is above zero, or which it does not have
+-- a column in which this vector is above zero, or that it does not have
 abbrev pub IsChanged : List ℕ → ℕ → Type 0
 IsChanged changed j = 0 < slice_index_or changed j 1
 
--- if a column is asked, it is above zero with its sum and the lower solutions that may be taken together
+-- a column, if it is one of these, is above zero with its sum and the lower solutions that may be taken together
 abbrev pub CanBeFilled : List ℕ → List ℕ → List Solution → List ℕ → ℕ → Type 0
 CanBeFilled changed constants lower sums j = IsChanged changed j → 0 < slice_index sums j + useful_sum constants j lower
 
