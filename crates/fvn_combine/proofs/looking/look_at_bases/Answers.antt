@@ -1,5 +1,5 @@
 -- The question is open; where there is none, the state is a leaf.
-use Rattle.std.proofs.Common.{List, sym, subst, Option, Some, None}
+use Rattle.std.proofs.Common.{List, sym, subst, Option, None}
 use Rattle.fvn_terms.specs.declared.plain.OpId.{OpId}
 use Rattle.fvn_combine_leaves.specs.Bases.{AreBases}
 use Rattle.fvn_combine_leaves.specs.Leaves.{IsQuestion}
@@ -19,9 +19,10 @@ open_touched-requires-clause-bases c = subst (AreBases c.args.reading.sums) (sym
 
 pub asked-requires : goal.asked-requires
 asked-requires c =
-    let q = c.in_ok-Some.ensures in
+    let q = subst (IsQuestion c.args.task.now.declarations c.args.task.now.table c.as_slice-2.result.now c.args.state.now) c.in-Some.is c.in_ok-pair.ensures in
     record { closed = c.requires.near.closed; heads = c.requires.heads; sorted = c.requires.sorted; left = q.0; right = q.1; «open» = q.2 }
 
 pub look_at_leaf-requires-clause-leaf : goal.look_at_leaf-requires-clause-leaf
 look_at_leaf-requires-clause-leaf c =
-    subst (λ (l : List (Option OpId)). IsQuestion c.args.task.now.declarations c.args.task.now.table l c.args.state.now None) c.as_slice-2.ensures.value c.in_ok-None.ensures
+    let leaf = subst (IsQuestion c.args.task.now.declarations c.args.task.now.table c.as_slice-2.result.now c.args.state.now) c.in-None.is c.in_ok-pair.ensures in
+    subst (λ (l : List (Option OpId)). IsQuestion c.args.task.now.declarations c.args.task.now.table l c.args.state.now None) c.as_slice-2.ensures.value leaf

@@ -1,6 +1,5 @@
 -- The question is that of the task.
-use Rattle.std.proofs.Common.{sym, subst, Option}
-use Rattle.std.specs.Prelude.{ℕ}
+use Rattle.std.proofs.Common.{sym, subst}
 use Rattle.fvn_combine_leaves.specs.Leaves.{IsNearLeaf, IsQuestion}
 use Rattle.fvn_combine_nodes.specs.States.{class_of}
 use Rattle.fvn_combine_leaves.specs.Readings.{IsReading}
