@@ -1,36 +1,63 @@
 -- Sums over a column of vectors.
-use Rattle.std.proofs.Common.{◌≡◌, ℕ, ◌+◌, ◌<◌, ◌≤◌, List, [], ◌∷◌, length, take, get_or, slice_index, All, refl, ap, sym, ◌∙◌, arith}
-use Rattle.std.specs.List.{sum_by}
+use Rattle.std.proofs.Common.{◌≡◌, ◌↔◌, ℕ, ◌+◌, ◌<◌, ◌≤◌, Bool, true, false, not, IsTrue, nat_lt, List, [], ◌∷◌, length, take, get_or, slice_index, All, refl, ap, sym, inl, inr, arith}
+use Rattle.std.proofs.lemmas.Bool.{cond-true, cond-false, cond_both, lt-ltb, le-ltb, true≢false, cases_lt}
 use Rattle.std.proofs.lemmas.List.{get_or_past}
 use Rattle.std.proofs.lemmas.List.Elements.{All-head, All-tail}
 use Rattle.std.proofs.lemmas.List.Sums.{sum_by-cons, sum_by_more, get_or-le-sum_by}
-use Rattle.fvn_lindio.specs.Systems.{vectors_of}
 use Rattle.fvn_lindio.specs.declared.system.Solution.{Solution}
-use Rattle.fvn_acunify.specs.ValidChoice.{column_sum}
+use Rattle.fvn_acunify.specs.ValidChoice.{column_sum, touched}
+use Rattle.fvn_acunify.specs.inner.Prefix.{useful_part, useful_sum}
 
 pub column_sum-cons : (j : ℕ) (v : List ℕ) (list : List (List ℕ)) → column_sum j (v ∷ list) ≡ slice_index v j + column_sum j list
 column_sum-cons j v list = sum_by-cons (λ w. slice_index w j) v list
 
--- over solutions as the code holds them
-pub column_sum-vectors_of : (j : ℕ) (list : List Solution) → column_sum j (vectors_of list) ≡ sum_by (λ v. slice_index v.parts j) list
-column_sum-vectors_of j [] = refl
-column_sum-vectors_of j (v ∷ list) =
-    column_sum-cons j v.parts (vectors_of list) ∙ ap (λ n. slice_index v.parts j + n) (column_sum-vectors_of j list) ∙ sym (sum_by-cons (λ w. slice_index w.parts j) v list)
+-- ---- what solutions can give to a column
 
-pub column_sum-take_more : (j : ℕ) (list : List Solution) (i : ℕ) (d : Solution) → i < length list → column_sum j (vectors_of (take (i + 1) list)) ≡ column_sum j (vectors_of (take i list)) + slice_index (get_or list i d).parts j
-column_sum-take_more j list i d h =
-    column_sum-vectors_of j (take (i + 1) list) ∙ sum_by_more (λ v. slice_index v.parts j) list i d h ∙ ap (λ n. n + slice_index (get_or list i d).parts j) (sym (column_sum-vectors_of j (take i list)))
+pub useful_part-le : (constants : List ℕ) (j : ℕ) (v : List ℕ) → useful_part constants j v ≤ slice_index v j
+useful_part-le constants j v =
+    cond_both (nat_lt 1 (touched constants v)) 0 (slice_index v j) (λ n. n ≤ slice_index v j) (λ _. omega arith) (λ _. omega arith)
 
--- no solution has more in a column than all of them together
-pub part-le-column_sum : (j : ℕ) (list : List Solution) (i : ℕ) (d : Solution) → i < length list → slice_index (get_or list i d).parts j ≤ column_sum j (vectors_of list)
-part-le-column_sum j list i d h =
-    omega (arith, column_sum-vectors_of j list, get_or-le-sum_by (λ v. slice_index v.parts j) list i d h)
+-- one that touches two constants gives nothing, and each other one its part
+useful_part-touched : (constants : List ℕ) (j : ℕ) (v : List ℕ) → 1 < touched constants v → useful_part constants j v ≡ 0
+useful_part-touched constants j v two = cond-true _ _ _ (lt-ltb 1 (touched constants v) two)
+
+pub useful_part-apart : (constants : List ℕ) (j : ℕ) (v : List ℕ) → touched constants v ≤ 1 → useful_part constants j v ≡ slice_index v j
+useful_part-apart constants j v one = cond-false _ _ _ (le-ltb 1 (touched constants v) one)
+
+-- where a vector is above zero in the column, it gives something unless it touches two constants
+pub useful_part-iff : (constants : List ℕ) (j : ℕ) (v : List ℕ) (two : Bool) → (slice_index v j ≡ 0 → ⊥) → (IsTrue two ↔ (1 < touched constants v)) → IsTrue (not two) ↔ (0 < useful_part constants j v)
+useful_part-iff constants j v true above tells =
+    let none = useful_part-touched constants j v (tells.0 refl) in
+    (λ e. absurd (true≢false (sym e)), λ h. absurd (omega (arith, none, h)))
+useful_part-iff constants j v false above tells =
+    let one : touched constants v ≤ 1 = elim (cases_lt 1 (touched constants v)) [ inl h ↦ absurd (true≢false (sym (tells.1 h))) | inr h ↦ h ] in
+    let all = useful_part-apart constants j v one in
+    let some : 0 < slice_index v j = elim (cases_lt 0 (slice_index v j)) [ inl h ↦ h | inr h ↦ absurd (above (omega (arith, h))) ] in
+    (λ _. omega (arith, all, some), λ _. refl)
+
+pub useful_sum-cons : (constants : List ℕ) (j : ℕ) (v : Solution) (list : List Solution) → useful_sum constants j (v ∷ list) ≡ useful_part constants j v.parts + useful_sum constants j list
+useful_sum-cons constants j v list = sum_by-cons (λ w. useful_part constants j w.parts) v list
+
+-- a solution that gives something, among others that may
+pub useful_sum-some : (constants : List ℕ) (j : ℕ) (list : List Solution) (i : ℕ) (d : Solution) (parts : List ℕ) → i < length list → parts ≡ (get_or list i d).parts → 0 < useful_part constants j parts → 0 < useful_sum constants j list
+useful_sum-some constants j list i d parts within is some =
+    omega (arith, some, ap (useful_part constants j) is, get_or-le-sum_by (λ v. useful_part constants j v.parts) list i d within)
+
+-- a solution more that gives nothing
+pub useful_sum-none : (constants : List ℕ) (j : ℕ) (list : List Solution) (i : ℕ) (d : Solution) (parts : List ℕ) → i < length list → parts ≡ (get_or list i d).parts → (0 < useful_part constants j parts → ⊥) → useful_sum constants j (take i list) ≡ 0 → useful_sum constants j (take (i + 1) list) ≡ 0
+useful_sum-none constants j list i d parts within is nothing before =
+    let here : useful_part constants j parts ≡ 0 = elim (cases_lt 0 (useful_part constants j parts)) [ inl h ↦ absurd (nothing h) | inr h ↦ omega (arith, h) ] in
+    omega (arith, before, here, ap (useful_part constants j) is, sum_by_more (λ v. useful_part constants j v.parts) list i d within)
+
+-- one solution more gives its part
+pub useful_sum-take_more : (constants : List ℕ) (j : ℕ) (list : List Solution) (i : ℕ) (d : Solution) → i < length list → useful_sum constants j (take (i + 1) list) ≡ useful_sum constants j (take i list) + useful_part constants j (get_or list i d).parts
+useful_sum-take_more constants j list i d within = sum_by_more (λ v. useful_part constants j v.parts) list i d within
 
 -- past the last column there is nothing
-pub column_sum-past : (n j : ℕ) (list : List Solution) → All (λ v. length v.parts ≡ n) list → n ≤ j → column_sum j (vectors_of list) ≡ 0
-column_sum-past n j [] sized past = refl
-column_sum-past n j (v ∷ list) sized past =
+pub useful_sum-past : (constants : List ℕ) (n j : ℕ) (list : List Solution) → All (λ v. length v.parts ≡ n) list → n ≤ j → useful_sum constants j list ≡ 0
+useful_sum-past constants n j [] sized past = refl
+useful_sum-past constants n j (v ∷ list) sized past =
     let long = All-head (λ (w : Solution). length w.parts ≡ n) v list sized in
     let here : slice_index v.parts j ≡ 0 = get_or_past v.parts j 0 (omega (arith, long, past)) in
-    let rest = column_sum-past n j list (All-tail (λ (w : Solution). length w.parts ≡ n) v list sized) past in
-    omega (arith, column_sum-cons j v.parts (vectors_of list), here, rest)
+    let rest = useful_sum-past constants n j list (All-tail (λ (w : Solution). length w.parts ≡ n) v list sized) past in
+    omega (arith, useful_sum-cons constants j v list, useful_part-le constants j v.parts, here, rest)

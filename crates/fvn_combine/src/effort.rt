@@ -10,11 +10,17 @@ use std::alloc::Global;
 // times as long with them. So they are asked where so many states did not do.
 const MANY_STATES: u64 = 4096;
 
-/// Sum systems that were solved, whether one was refused, how many states were asked, and how many choices were tried.
+// How often it is tried hard to solve a refused system in another order of its rows: where that did not do, it hardly does later,
+// and each try takes some hundredths of a second.
+const HARD_TRIES: u64 = 8;
+
+/// Sum systems that were solved, whether one was refused, how often one was not solved in another order either, how many states
+/// were asked, and how many choices were tried.
 #[derive(Drop)]
 pub(crate) struct Effort {
     pub(crate) solved: SolvedSystems,
     pub(crate) refused: bool,
+    pub(crate) failed: u64,
     pub(crate) states: u64,
     pub(crate) choices: u64,
 }
@@ -25,6 +31,7 @@ impl Effort {
         Effort {
             solved: SolvedSystems::new(alloc),
             refused: false,
+            failed: 0,
             states: 0,
             choices: 0,
         }
@@ -42,6 +49,16 @@ impl Effort {
             return true;
         }
         self.states >= MANY_STATES
+    }
+
+    // Whether it is tried hard to solve a refused system.
+    pub(crate) fn is_wide(&self) -> bool {
+        self.failed < HARD_TRIES
+    }
+
+    // A refused system was not solved in another order either.
+    pub(crate) fn count_failure(&mut self) {
+        self.failed = self.failed.saturating_add(1);
     }
 
     // One choice more is tried.

@@ -249,13 +249,15 @@ fn look_at_refused(
         &reading,
         known.heads.as_slice(),
         task.sorted,
+        true,
     )? {
         Some(bases) => look_at_bases(task, state, reading, known, bases),
         None => Ok(asked_or_refused(task, state, &reading, &known, f, system)),
     }
 }
 
-// What is asked for by a state that is nearly a leaf, where systems are solved from their first rows on.
+// What is asked for by a state that is nearly a leaf, where systems are solved from their first rows on. Where a system was
+// refused before, they were not solved from the last rows on either.
 fn look_at_systems(
     task: &Task,
     state: &State,
@@ -282,6 +284,10 @@ fn look_at_systems(
     ) {
         Err(OpenFault::NoMemory) => Err(NoMemory),
         Err(OpenFault::Basis(f, system)) => {
+            if effort.refused {
+                effort.count_failure();
+                return Ok(asked_or_refused(task, state, &reading, &known, f, system));
+            }
             effort.refused = true;
             look_at_refused(task, state, reading, known, f, system)
         }
@@ -315,6 +321,7 @@ fn turned_bases(
         reading,
         known.heads.as_slice(),
         task.sorted,
+        effort.is_wide(),
     )?;
     Ok(found)
 }

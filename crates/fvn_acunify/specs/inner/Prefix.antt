@@ -1,11 +1,10 @@
 -- What the highest bits of a number tell of every number that begins with them.
-use Rattle.std.specs.Prelude.{◌≡◌, ℕ, ◌/◌, ◌^◌, ◌+◌, ◌<◌, ◌≤◌, Bool, true, false, List, length, slice_index, slice_index_or, All}
+use Rattle.std.specs.Prelude.{◌≡◌, ℕ, ◌/◌, ◌^◌, ◌+◌, ◌<◌, ◌≤◌, Bool, true, false, if◌then◌else◌, List, length, nat_lt, slice_index, slice_index_or, sum_by, All}
 use Rattle.fvn_base.specs.declared.limits.TheConstants.{COMPONENT}
-use Rattle.fvn_lindio.specs.Systems.{vectors_of}
 use Rattle.fvn_lindio.specs.declared.system.Solution.{Solution}
 use Rattle.fvn_acunify.specs.declared.limits.TheConstants.{LISTED_SOLUTIONS}
 use Rattle.fvn_acunify.specs.declared.theory.ColumnBounds.{ColumnBounds}
-use Rattle.fvn_acunify.specs.ValidChoice.{column_sum}
+use Rattle.fvn_acunify.specs.ValidChoice.{touched}
 
 -- few solutions, of so many columns and with small components, and constants among these columns
 pub record IsBounded (columns : ℕ) (constants : List ℕ) (basis : List Solution) : Type 0 where
@@ -18,21 +17,33 @@ pub record IsBounded (columns : ℕ) (constants : List ℕ) (basis : List Soluti
 abbrev pub IsDead : (ℕ → Type 0) → ℕ → ℕ → Type 0
 IsDead Listed number place = (b : ℕ) → b / 2 ^ place ≡ number / 2 ^ place → Listed b → ⊥
 
--- a column is above zero with its sum and the lower solutions together
-abbrev pub CanBeFilled : List Solution → List ℕ → ℕ → Type 0
-CanBeFilled lower sums j = 0 < slice_index sums j + column_sum j (vectors_of lower)
+-- what a vector can give to a column: nothing where it touches two constants
+abbrev pub useful_part : List ℕ → ℕ → List ℕ → ℕ
+useful_part constants j v = if nat_lt 1 (touched constants v) then 0 else slice_index v j
+
+-- what these solutions can give to a column, all together
+abbrev pub useful_sum : List ℕ → ℕ → List Solution → ℕ
+useful_sum constants j list = sum_by (λ v. useful_part constants j v.parts) list
+
+-- a column in which this vector is above zero, or that it does not have
+abbrev pub IsChanged : List ℕ → ℕ → Type 0
+IsChanged changed j = 0 < slice_index_or changed j 1
+
+-- a column, if it is one of these, is above zero with its sum and the lower solutions that may be taken together
+abbrev pub CanBeFilled : List ℕ → List ℕ → List Solution → List ℕ → ℕ → Type 0
+CanBeFilled changed constants lower sums j = IsChanged changed j → 0 < slice_index sums j + useful_sum constants j lower
 
 -- a column has at most 1, and has or can get it
-abbrev pub CanBeOne : List Solution → List ℕ → ℕ → Type 0
-CanBeOne lower sums c = (slice_index sums c ≤ 1) × CanBeFilled lower sums c
+abbrev pub CanBeOne : List ℕ → List ℕ → List Solution → List ℕ → ℕ → Type 0
+CanBeOne changed constants lower sums c = (slice_index sums c ≤ 1) × CanBeFilled changed constants lower sums c
 
 -- with these column sums and any of the lower solutions the bounds can still be kept
-pub record AreBoundsOpen (bounds : ColumnBounds) (lower : List Solution) (sums : List ℕ) : Type 0 where
+pub record AreBoundsOpen (bounds : ColumnBounds) (changed constants : List ℕ) (lower : List Solution) (sums : List ℕ) : Type 0 where
   pub most : All (λ j. slice_index sums j ≤ 1) bounds.at_most_one
-  pub least : All (CanBeFilled lower sums) bounds.at_least_one
+  pub least : All (CanBeFilled changed constants lower sums) bounds.at_least_one
 
 -- and every column can still get what is asked
-pub record IsOpen (constants : List ℕ) (may_be_zero : List Bool) (bounds : ColumnBounds) (lower : List Solution) (sums : List ℕ) : Type 0 where
-  pub filled : (j : ℕ) → slice_index_or may_be_zero j true ≡ false → CanBeFilled lower sums j
-  pub once : All (CanBeOne lower sums) constants
-  pub bounded : AreBoundsOpen bounds lower sums
+pub record IsOpen (changed constants : List ℕ) (may_be_zero : List Bool) (bounds : ColumnBounds) (lower : List Solution) (sums : List ℕ) : Type 0 where
+  pub filled : (j : ℕ) → slice_index_or may_be_zero j true ≡ false → CanBeFilled changed constants lower sums j
+  pub once : All (CanBeOne changed constants lower sums) constants
+  pub bounded : AreBoundsOpen bounds changed constants lower sums

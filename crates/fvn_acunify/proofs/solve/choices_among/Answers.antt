@@ -1,7 +1,7 @@
 -- The choices go over a copy of the solutions.
 use Rattle.std.proofs.Common.{◌≡◌, ◌^◌, length, false, sym, ap, ◌∙◌, subst}
 use Rattle.std.proofs.lemmas.Result.{IfOk-weaker}
-use Rattle.fvn_lindio.specs.Systems.{rows_of, vectors_of}
+use Rattle.fvn_lindio.specs.Systems.{rows_of}
 use Rattle.fvn_acunify.specs.Cursor.{Cursor, unbounded}
 use Rattle.fvn_acunify.specs.inner.Prefix.{IsBounded}
 use Rattle.fvn_acunify.proofs.RefusalLemmas.{IsBounded-from_minimal}
