@@ -49,6 +49,10 @@ useful_sum-none constants j list i d parts within is nothing before =
     let here : useful_part constants j parts ≡ 0 = elim (cases_lt 0 (useful_part constants j parts)) [ inl h ↦ absurd (nothing h) | inr h ↦ omega (arith, h) ] in
     omega (arith, before, here, ap (useful_part constants j) is, sum_by_more (λ v. useful_part constants j v.parts) list i d within)
 
+-- one solution more gives its part
+pub useful_sum-take_more : (constants : List ℕ) (j : ℕ) (list : List Solution) (i : ℕ) (d : Solution) → i < length list → useful_sum constants j (take (i + 1) list) ≡ useful_sum constants j (take i list) + useful_part constants j (get_or list i d).parts
+useful_sum-take_more constants j list i d within = sum_by_more (λ v. useful_part constants j v.parts) list i d within
+
 -- past the last column there is nothing
 pub useful_sum-past : (constants : List ℕ) (n j : ℕ) (list : List Solution) → All (λ v. length v.parts ≡ n) list → n ≤ j → useful_sum constants j list ≡ 0
 useful_sum-past constants n j [] sized past = refl

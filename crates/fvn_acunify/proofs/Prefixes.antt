@@ -2,15 +2,15 @@
 use Rattle.std.proofs.Common.{◌≡◌, ◌≢◌, ℕ, zero, suc, ◌+◌, ◌-◌, ◌*◌, ◌/◌, ◌%◌, ◌^◌, ◌<◌, ◌≤◌, Bool, true, false, cond, eqb, List, [], ◌∷◌, ◌++◌, length, take, drop, get_or, replicate, slice_index, slice_index_or, All, refl, ap, sym, subst, ◌∙◌, inl, inr, arith}
 use Rattle.std.proofs.lemmas.Bool.{cond-true, cond-false, eq-eqb, ne_eqb, cases_lt}
 use Rattle.std.proofs.lemmas.Nat.{shr-shr, pow_pos, div-add-mod', le-div}
-use Rattle.std.proofs.lemmas.List.{drop_more, drop_all, get_or_past, get_or-map, get_or-replicate, length-map, length-replicate}
+use Rattle.std.proofs.lemmas.List.{drop_more, drop_all, get_or_past, get_or_default, get_or-map, get_or-replicate, length-map, length-replicate}
 use Rattle.std.proofs.lemmas.List.Elements.{All-head, All-tail, All-cons, All-same, All-nil}
 use Rattle.std.proofs.lemmas.List.Sums.{sum_by-append}
 use Rattle.fvn_lindio.specs.Systems.{vectors_of}
 use Rattle.fvn_lindio.specs.declared.system.Solution.{Solution}
 use Rattle.fvn_acunify.specs.declared.theory.ColumnBounds.{ColumnBounds}
 use Rattle.fvn_acunify.specs.ValidChoice.{IsListed, chosen, column_sum, touched}
-use Rattle.fvn_acunify.specs.inner.Prefix.{IsBounded, IsDead, IsOpen, useful_sum}
-use Rattle.fvn_acunify.proofs.ColumnSums.{column_sum-cons, useful_part-apart, useful_sum-cons}
+use Rattle.fvn_acunify.specs.inner.Prefix.{CanBeFilled, IsBounded, IsChanged, IsDead, IsOpen, useful_part, useful_sum}
+use Rattle.fvn_acunify.proofs.ColumnSums.{column_sum-cons, useful_part-apart, useful_part-le, useful_sum-cons, useful_sum-take_more}
 
 -- ---- a number's bits from a place on
 
@@ -159,16 +159,16 @@ vector_at : (basis : List Solution) (p : ℕ) (d : Solution) → p < length basi
 vector_at basis p d within = get_or-map (λ (v : Solution). v.parts) basis p d [] within
 
 -- where the sums leave a column without what is asked, all numbers with these higher bits are out
-pub dead-from_closed : (full : Bool) (constants : List ℕ) (may_be_zero : List Bool) (bounds : ColumnBounds) (basis : List Solution) (number place : ℕ) (sums : List ℕ) → IsWalked constants basis number place sums → (IsOpen constants may_be_zero bounds (take place basis) sums → ⊥) → IsDead (IsListed full constants may_be_zero bounds (vectors_of basis)) number place
-dead-from_closed full constants may_be_zero bounds basis number place sums walked closed b same listed =
+pub dead-from_closed : (full : Bool) (constants : List ℕ) (may_be_zero : List Bool) (bounds : ColumnBounds) (basis : List Solution) (number place : ℕ) (sums changed : List ℕ) → IsWalked constants basis number place sums → (IsOpen changed constants may_be_zero bounds (take place basis) sums → ⊥) → IsDead (IsListed full constants may_be_zero bounds (vectors_of basis)) number place
+dead-from_closed full constants may_be_zero bounds basis number place sums changed walked closed b same listed =
     let valid = listed.valid in
     let at = column_sum-at constants basis number place sums walked b same valid.apart in
     closed (record {
-      filled = λ j asked. omega (arith, at j, valid.filled j asked);
-      once = λ k d h. (omega (arith, at (slice_index_or constants k d), valid.once k d h), omega (arith, at (slice_index_or constants k d), valid.once k d h));
+      filled = λ j asked _. omega (arith, at j, valid.filled j asked);
+      once = λ k d h. (omega (arith, at (slice_index_or constants k d), valid.once k d h), λ _. omega (arith, at (slice_index_or constants k d), valid.once k d h));
       bounded = record {
         most = λ k d h. omega (arith, at (slice_index_or bounds.at_most_one k d), listed.bounded.most k d h);
-        least = λ k d h. omega (arith, at (slice_index_or bounds.at_least_one k d), listed.bounded.least k d h);
+        least = λ k d h _. omega (arith, at (slice_index_or bounds.at_least_one k d), listed.bounded.least k d h);
       };
     })
 
@@ -203,21 +203,53 @@ full-from_skipped full constants basis number place p parts d e inside is other 
   | inr here ↦ (let same : p ≡ i = omega (arith, here, from) in absurd (other (is_full, ap (touched constants) (is ∙ sym (vector_at basis p d inside)) ∙ subst (λ j. touched constants (get_or (vectors_of basis) j []) ≡ 0) (sym same) bare)))
 ]
 
+-- a vector without columns leaves none unasked
+all_changed : (j : ℕ) → IsChanged [] j
+all_changed j = omega arith
+
+-- a column in which a vector is zero
+zero-from_unchanged : (parts : List ℕ) (j : ℕ) → slice_index_or parts j 1 ≤ 0 → slice_index parts j ≡ 0
+zero-from_unchanged parts j none = elim (cases_lt j (length parts)) [
+  | inl h ↦ omega (arith, none, get_or_default parts j 0 1 h)
+  | inr h ↦ get_or_past parts j 0 h
+]
+
+-- what could be filled can be filled one place further down, if it can where the solution there is above zero
+filled-on : (constants : List ℕ) (basis : List Solution) (place p : ℕ) (sums added parts : List ℕ) (d : Solution) → p + 1 ≡ place → p < length basis → parts ≡ (get_or basis p d).parts → ((j : ℕ) → slice_index sums j ≤ slice_index added j) → (j : ℕ) → CanBeFilled [] constants (take place basis) sums j → CanBeFilled parts constants (take p basis) added j → CanBeFilled [] constants (take p basis) added j
+filled-on constants basis place p sums added parts d e within is more j before here _ = elim (cases_lt 0 (slice_index_or parts j 1)) [
+  | inl changed ↦ here changed
+  | inr kept ↦ (let none = zero-from_unchanged parts j kept in
+      omega (arith, before (all_changed j), more j, ap (λ n. useful_sum constants j (take n basis)) e, useful_sum-take_more constants j basis p d within, ap (useful_part constants j) is, useful_part-le constants j parts, none))
+]
+
+-- what was open stays open one place further down, if it does where the solution there is above zero
+pub open-on : (constants : List ℕ) (may_be_zero : List Bool) (bounds : ColumnBounds) (basis : List Solution) (place p : ℕ) (sums added parts : List ℕ) (d : Solution) → p + 1 ≡ place → p < length basis → parts ≡ (get_or basis p d).parts → ((j : ℕ) → slice_index sums j ≤ slice_index added j) → IsOpen [] constants may_be_zero bounds (take place basis) sums → IsOpen parts constants may_be_zero bounds (take p basis) added → IsOpen [] constants may_be_zero bounds (take p basis) added
+open-on constants may_be_zero bounds basis place p sums added parts d e within is more before here =
+    let on = filled-on constants basis place p sums added parts d e within is more in
+    record {
+      filled = λ j asked. on j (before.filled j asked) (here.filled j asked);
+      once = λ k c h. ((here.once k c h).0, on (slice_index_or constants k c) (before.once k c h).1 (here.once k c h).1);
+      bounded = record {
+        most = here.bounded.most;
+        least = λ k c h. on (slice_index_or bounds.at_least_one k c) (before.bounded.least k c h) (here.bounded.least k c h);
+      };
+    }
+
 -- a number that was walked to its last bit, with every column as asked and every solution that must be taken, is listed
-pub listed-from_open : (full : Bool) (constants : List ℕ) (may_be_zero : List Bool) (bounds : ColumnBounds) (basis : List Solution) (number : ℕ) (sums : List ℕ) → IsWalked constants basis number 0 sums → IsOpen constants may_be_zero bounds (take 0 basis) sums → IsFullFrom full constants basis number 0 → number < 2 ^ length basis → IsListed full constants may_be_zero bounds (vectors_of basis) number
+pub listed-from_open : (full : Bool) (constants : List ℕ) (may_be_zero : List Bool) (bounds : ColumnBounds) (basis : List Solution) (number : ℕ) (sums : List ℕ) → IsWalked constants basis number 0 sums → IsOpen [] constants may_be_zero bounds (take 0 basis) sums → IsFullFrom full constants basis number 0 → number < 2 ^ length basis → IsListed full constants may_be_zero bounds (vectors_of basis) number
 listed-from_open full constants may_be_zero bounds basis number sums walked all_open taken within =
     let same : number / 1 ≡ number = omega arith in
     let whole : higher number 0 basis ≡ chosen number (vectors_of basis) = ap (λ n. chosen n (vectors_of basis)) same in
     record {
       valid = record {
         within = rw length-map within;
-        filled = λ j asked. omega (arith, all_open.filled j asked, walked.summed j, ap (column_sum j) whole);
-        once = λ k d h. omega (arith, all_open.once k d h, walked.summed (slice_index_or constants k d), ap (column_sum (slice_index_or constants k d)) whole);
+        filled = λ j asked. omega (arith, all_open.filled j asked (all_changed j), walked.summed j, ap (column_sum j) whole);
+        once = λ k d h. omega (arith, (all_open.once k d h).0, (all_open.once k d h).1 (all_changed (slice_index_or constants k d)), walked.summed (slice_index_or constants k d), ap (column_sum (slice_index_or constants k d)) whole);
         apart = All-same (λ v. touched constants v ≤ 1) (chosen number (vectors_of basis)) (higher number 0 basis) (sym whole) walked.apart;
       };
       bounded = record {
         most = λ k d h. omega (arith, all_open.bounded.most k d h, walked.summed (slice_index_or bounds.at_most_one k d), ap (column_sum (slice_index_or bounds.at_most_one k d)) whole);
-        least = λ k d h. omega (arith, all_open.bounded.least k d h, walked.summed (slice_index_or bounds.at_least_one k d), ap (column_sum (slice_index_or bounds.at_least_one k d)) whole);
+        least = λ k d h. omega (arith, all_open.bounded.least k d h (all_changed (slice_index_or bounds.at_least_one k d)), walked.summed (slice_index_or bounds.at_least_one k d), ap (column_sum (slice_index_or bounds.at_least_one k d)) whole);
       };
       whole = λ is_full i l bare. taken is_full i (omega arith) (let n = length-map basis (λ (v : Solution). v.parts) in omega (arith, l, n)) bare;
     }

@@ -2,7 +2,7 @@
 ghost use Rattle.std.specs.Prelude.{◌≡◌, ◌↔◌, ℕ, ◌+◌, ◌^◌, ◌<◌, ◌≤◌, length, slice_index, slice_index_or, true, false, All, IsTrue, IfSome, IfNone};
 ghost use Rattle.fvn_lindio.specs.Systems.{vectors_of};
 ghost use Rattle.fvn_acunify.specs.ValidChoice.{IsListed, touched};
-ghost use Rattle.fvn_acunify.specs.inner.Prefix.{AreBoundsOpen, CanBeFilled, CanBeOne, IsBounded, IsDead, IsOpen, useful_part};
+ghost use Rattle.fvn_acunify.specs.inner.Prefix.{AreBoundsOpen, CanBeFilled, CanBeOne, IsBounded, IsChanged, IsDead, IsOpen, useful_part};
 
 use crate::theory::ColumnBounds;
 use fvn_lindio::Solution;
@@ -30,21 +30,21 @@ pub fn dead_place(
 {
     sums.fill(0);
     let mut place = basis.len();
-    if !is_open(constants, may_be_zero, bounds, basis, sums) {
+    if !is_open(constants, may_be_zero, bounds, basis, sums, &[]) {
         return Some(place);
     }
     while place > 0 {
         place -= 1;
+        let parts = basis[place].parts.as_slice();
         if (number >> place) % 2 == 1 {
-            let parts = basis[place].parts.as_slice();
             if touches_two(constants, parts) {
                 return Some(place);
             }
             add(sums, parts);
-        } else if is_asked(full, constants, basis[place].parts.as_slice()) {
+        } else if is_asked(full, constants, parts) {
             return Some(place);
         }
-        if !is_open(constants, may_be_zero, bounds, &basis[..place], sums) {
+        if !is_open(constants, may_be_zero, bounds, &basis[..place], sums, parts) {
             return Some(place);
         }
     }
@@ -81,23 +81,27 @@ fn add(sums: &mut [u64], parts: &[u32])
     }
 }
 
-/// Whether every column can still get what is asked, with any of the lower solutions.
+/// Whether every column can still get what is asked, with any of the lower solutions. What it has to
+/// reach is looked at where `changed` is above zero, or has no such column.
 fn is_open(
     constants: &[usize],
     may_be_zero: &[bool],
     bounds: &ColumnBounds,
     lower: &[Solution],
     sums: &[u64],
+    changed: &[u32],
 ) -> bool
     requires bounded { IsBounded (length may_be_zero.now) constants.now lower.now }
     requires room { length sums.now ≡ length may_be_zero.now }
-    ensures { IsTrue result ↔ IsOpen constants.now may_be_zero.now bounds.now lower.now sums.now }
+    requires short { length changed.now ≤ length sums.now }
+    ensures { IsTrue result
+        ↔ IsOpen changed.now constants.now may_be_zero.now bounds.now lower.now sums.now }
 {
-    if !are_bounds_open(bounds, constants, lower, sums) {
+    if !are_bounds_open(bounds, constants, lower, sums, changed) {
         return false;
     }
-    are_constants_open(constants, lower, sums)
-        && are_columns_open(may_be_zero, constants, lower, sums)
+    are_constants_open(constants, lower, sums, changed)
+        && are_columns_open(may_be_zero, constants, lower, sums, changed)
 }
 
 /// Whether the bounds can still be kept, with any of the lower solutions.
@@ -106,15 +110,24 @@ fn are_bounds_open(
     constants: &[usize],
     lower: &[Solution],
     sums: &[u64],
+    changed: &[u32],
 ) -> bool
     requires among { All (λ c. c < length sums.now) constants.now }
     requires sized { All (λ v. length v.parts ≡ length sums.now) lower.now }
-    ensures { IsTrue result ↔ AreBoundsOpen bounds.now constants.now lower.now sums.now }
+    requires short { length changed.now ≤ length sums.now }
+    ensures { IsTrue result
+        ↔ AreBoundsOpen bounds.now changed.now constants.now lower.now sums.now }
 {
     if !are_within(bounds.at_most_one.as_slice(), sums) {
         return false;
     }
-    are_reached(bounds.at_least_one.as_slice(), constants, lower, sums)
+    are_reached(
+        bounds.at_least_one.as_slice(),
+        constants,
+        lower,
+        sums,
+        changed,
+    )
 }
 
 /// Whether each of these columns has at most 1.
@@ -136,14 +149,16 @@ fn are_reached(
     constants: &[usize],
     lower: &[Solution],
     sums: &[u64],
+    changed: &[u32],
 ) -> bool
     requires among { All (λ c. c < length sums.now) constants.now }
     requires sized { All (λ v. length v.parts ≡ length sums.now) lower.now }
+    requires short { length changed.now ≤ length sums.now }
     ensures { IsTrue result
-        ↔ All (CanBeFilled constants.now lower.now sums.now) at_least_one.now }
+        ↔ All (CanBeFilled changed.now constants.now lower.now sums.now) at_least_one.now }
 {
     for j in at_least_one {
-        if !is_reached(constants, lower, sums, *j) {
+        if !is_reached(constants, lower, sums, changed, *j) {
             return false;
         }
     }
@@ -151,15 +166,22 @@ fn are_reached(
 }
 
 /// The same of one column; one that there is not cannot be.
-fn is_reached(constants: &[usize], lower: &[Solution], sums: &[u64], j: usize) -> bool
+fn is_reached(
+    constants: &[usize],
+    lower: &[Solution],
+    sums: &[u64],
+    changed: &[u32],
+    j: usize,
+) -> bool
     requires among { All (λ c. c < length sums.now) constants.now }
     requires sized { All (λ v. length v.parts ≡ length sums.now) lower.now }
-    ensures { IsTrue result ↔ CanBeFilled constants.now lower.now sums.now j }
+    requires short { length changed.now ≤ length sums.now }
+    ensures { IsTrue result ↔ CanBeFilled changed.now constants.now lower.now sums.now j }
 {
     if j >= sums.len() {
         return false;
     }
-    is_fillable(constants, lower, sums, j)
+    is_fillable(constants, lower, sums, changed, j)
 }
 
 /// The sum in a column; where there is none, 0.
@@ -173,14 +195,20 @@ fn sum_in(sums: &[u64], j: usize) -> u64
 }
 
 /// Whether every constant column has at most 1, and has or can get it.
-fn are_constants_open(constants: &[usize], lower: &[Solution], sums: &[u64]) -> bool
+fn are_constants_open(
+    constants: &[usize],
+    lower: &[Solution],
+    sums: &[u64],
+    changed: &[u32],
+) -> bool
     requires among { All (λ c. c < length sums.now) constants.now }
     requires sized { All (λ v. length v.parts ≡ length sums.now) lower.now }
-    ensures { IsTrue result ↔ All (CanBeOne constants.now lower.now sums.now) constants.now }
+    ensures { IsTrue result
+        ↔ All (CanBeOne changed.now constants.now lower.now sums.now) constants.now }
 {
     for c in constants {
         let sum = sums[*c];
-        if sum > 1 || !is_fillable(constants, lower, sums, *c) {
+        if sum > 1 || !is_fillable(constants, lower, sums, changed, *c) {
             return false;
         }
     }
@@ -193,28 +221,39 @@ fn are_columns_open(
     constants: &[usize],
     lower: &[Solution],
     sums: &[u64],
+    changed: &[u32],
 ) -> bool
     requires room { length sums.now ≡ length may_be_zero.now }
     requires among { All (λ c. c < length sums.now) constants.now }
     requires sized { All (λ v. length v.parts ≡ length sums.now) lower.now }
     ensures { IsTrue result ↔ ((j : ℕ) → slice_index_or may_be_zero.now j true ≡ false
-        → CanBeFilled constants.now lower.now sums.now j) }
+        → CanBeFilled changed.now constants.now lower.now sums.now j) }
 {
     for (j, may) in may_be_zero.iter().enumerate() {
-        if !*may && !is_fillable(constants, lower, sums, j) {
+        if !*may && !is_fillable(constants, lower, sums, changed, j) {
             return false;
         }
     }
     true
 }
 
-/// Whether a column is above zero, or can be with one of the lower solutions.
-fn is_fillable(constants: &[usize], lower: &[Solution], sums: &[u64], j: usize) -> bool
+/// Whether a column is above zero, or can be with one of the lower solutions; one that is not asked
+/// is taken to be.
+fn is_fillable(
+    constants: &[usize],
+    lower: &[Solution],
+    sums: &[u64],
+    changed: &[u32],
+    j: usize,
+) -> bool
     requires among { All (λ c. c < length sums.now) constants.now }
     requires column { j < length sums.now }
     requires sized { All (λ v. length v.parts ≡ length sums.now) lower.now }
-    ensures { IsTrue result ↔ CanBeFilled constants.now lower.now sums.now j }
+    ensures { IsTrue result ↔ CanBeFilled changed.now constants.now lower.now sums.now j }
 {
+    if !is_changed(changed, j) {
+        return true;
+    }
     if sums[j] > 0 {
         return true;
     }
@@ -226,13 +265,25 @@ fn is_fillable(constants: &[usize], lower: &[Solution], sums: &[u64], j: usize) 
     false
 }
 
+/// Whether a vector is above zero in a column, or has no such column.
+fn is_changed(changed: &[u32], j: usize) -> bool
+    ensures { IsTrue result ↔ IsChanged changed.now j }
+{
+    if j < changed.len() {
+        let part = changed[j];
+        return part > 0;
+    }
+    true
+}
+
 /// Whether a solution is above zero in a column, and may be taken; it may not with two constants.
 fn is_useful(constants: &[usize], parts: &[u32], j: usize) -> bool
     requires among { All (λ c. c < length parts.now) constants.now }
     requires column { j < length parts.now }
     ensures { IsTrue result ↔ (0 < useful_part constants.now j parts.now) }
 {
-    if parts[j] == 0 {
+    let part = parts[j];
+    if part == 0 {
         return false;
     }
     !touches_two(constants, parts)

@@ -10,6 +10,7 @@ mod kinds;
 mod labels;
 mod looking;
 mod opened;
+mod ranks;
 mod stepping;
 mod task;
 mod walking;

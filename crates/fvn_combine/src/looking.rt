@@ -3,7 +3,7 @@ ghost use Rattle.std.specs.Prelude.{◌≡◌, ◌<◌, length, IsTrue, IfOk, If
 ghost use Rattle.fvn_combine_tree.specs.Trees.{AreClosed};
 ghost use Rattle.fvn_combine_nodes.specs.States.{IsClosed, IsOpen, class_of};
 ghost use Rattle.fvn_combine_leaves.specs.Bases.{AreBases};
-ghost use Rattle.fvn_combine_leaves.specs.Leaves.{IsNearLeaf, IsLeaf};
+ghost use Rattle.fvn_combine_leaves.specs.Leaves.{IsNearLeaf, IsLeaf, IsQuestion};
 ghost use Rattle.fvn_combine_leaves.specs.Readings.{IsReading};
 ghost use Rattle.fvn_combine_choices.specs.Plans.{AreOfOneKind};
 ghost use Rattle.fvn_combine_drawing.specs.CombineCandidatesRefusals.{IsFirstRefused};
@@ -14,6 +14,7 @@ use crate::effort::Effort;
 use crate::kinds::are_of_one_kind;
 use crate::labels::labels_of;
 use crate::opened::{Opened, open};
+use crate::ranks::class_ranks;
 use crate::task::Task;
 use fvn_base::Seq;
 use fvn_combine_choices::classes_have_one_kind;
@@ -143,31 +144,31 @@ fn asked(task: &Task, state: &State, known: &Known, i: usize, j: usize) -> Resul
     Ok(Looked::Open(i, j))
 }
 
-fn ranks_of(task: &Task, state: &State) -> Result<Vec<usize>, NoMemory> {
-    let n = task.table.nodes().len();
-    let mut sizes = Vec::with_capacity(task.alloc, n)?;
-    for i in 0..n {
-        let mut sum: usize = 1;
-        match task.table.node(i) {
-            fvn_combine_nodes::Node::Var(_) => {}
-            fvn_combine_nodes::Node::App(_, ks) => {
-                for k in ks.as_slice() {
-                    if *k < i {
-                        sum = sum.saturating_add(sizes[*k]);
-                    }
-                }
-            }
-        }
-        sizes.push(sum)?;
-    }
-    let mut ranks = vec![in task.alloc; 0usize; n]?;
-    for i in 0..n {
-        let c = state.class_of(i);
-        if c < n {
-            ranks[c] = ranks[c].max(sizes[i]);
-        }
-    }
-    Ok(ranks)
+// A question on two classes that may be constants of one operator, and that a minimal solution has both of: what is largest
+// is asked of first.
+fn open_touched(
+    task: &Task,
+    state: &State,
+    reading: &Reading,
+    labels: &[Option<OpId>],
+    bases: &[Seq<Solution>],
+) -> Result<Option<(usize, usize)>, NoMemory>
+    requires near { IsNearLeaf task.now.declarations task.now.table state.now }
+    requires reading { IsReading task.now.declarations task.now.table (class_of state.now)
+        reading.now }
+    requires bases { AreBases reading.now.sums bases.now }
+    ensures { IfOk result (IsQuestion task.now.declarations task.now.table labels.now state.now) }
+{
+    let ranks = class_ranks(task.alloc, state, task.sizes.as_slice())?;
+    Ok(question_on_touched(
+        task.sig,
+        &task.table,
+        state,
+        reading,
+        ranks.as_slice(),
+        labels,
+        bases,
+    ))
 }
 
 // What is asked for by a state that is nearly a leaf, where minimal solutions are known.
@@ -189,16 +190,7 @@ fn look_at_bases(
 {
     task.recall();
     let labels = labels_of(task, state, &reading, &known, bases.as_slice())?;
-    let ranks = ranks_of(task, state)?;
-    match question_on_touched(
-        task.sig,
-        &task.table,
-        state,
-        &reading,
-        ranks.as_slice(),
-        labels.as_slice(),
-        bases.as_slice(),
-    ) {
+    match open_touched(task, state, &reading, labels.as_slice(), bases.as_slice())? {
         Some(pair) => asked(task, state, &known, pair.0, pair.1),
         None => look_at_leaf(task, state, reading, labels, bases),
     }
@@ -257,13 +249,15 @@ fn look_at_refused(
         &reading,
         known.heads.as_slice(),
         task.sorted,
+        true,
     )? {
         Some(bases) => look_at_bases(task, state, reading, known, bases),
         None => Ok(asked_or_refused(task, state, &reading, &known, f, system)),
     }
 }
 
-// What is asked for by a state that is nearly a leaf, where systems are solved from their first rows on.
+// What is asked for by a state that is nearly a leaf, where systems are solved from their first rows on. Where a system was
+// refused before, they were not solved from the last rows on either.
 fn look_at_systems(
     task: &Task,
     state: &State,
@@ -290,6 +284,10 @@ fn look_at_systems(
     ) {
         Err(OpenFault::NoMemory) => Err(NoMemory),
         Err(OpenFault::Basis(f, system)) => {
+            if effort.refused {
+                effort.count_failure();
+                return Ok(asked_or_refused(task, state, &reading, &known, f, system));
+            }
             effort.refused = true;
             look_at_refused(task, state, reading, known, f, system)
         }
@@ -323,6 +321,7 @@ fn turned_bases(
         reading,
         known.heads.as_slice(),
         task.sorted,
+        effort.is_wide(),
     )?;
     Ok(found)
 }

@@ -4,6 +4,7 @@ ghost use Rattle.fvn_base.specs.declared.limits.TheConstants.{TERM_SYMBOLS};
 ghost use Rattle.fvn_flat.specs.Solving.{IsGiven, symbols_of_pairs};
 ghost use Rattle.fvn_combine.specs.Tasks.{IsCombining};
 
+use crate::ranks::node_sizes;
 use fvn_combine_drawing::variables;
 use fvn_combine_nodes::Table;
 use fvn_combine_tree::table_of;
@@ -13,8 +14,8 @@ use fvn_terms::{NoMemory, Var};
 use std::alloc::Global;
 use std::marker::Model;
 
-/// A problem in its signature, with its table, the limits on its answers, whether sorts are heeded, and whether of
-/// each unifier a more general one is enough.
+/// A problem in its signature, with its table and the sizes of its nodes, the limits on its answers, whether sorts are heeded,
+/// and whether of each unifier a more general one is enough.
 #[derive(Drop)]
 pub(crate) struct Task<'a> {
     pub(crate) alloc: Global,
@@ -22,6 +23,7 @@ pub(crate) struct Task<'a> {
     pub(crate) problem: &'a Pairs,
     pub(crate) table: Table,
     pub(crate) variables: Vec<Var>,
+    pub(crate) sizes: Vec<usize>,
     pub(crate) first: u32,
     pub(crate) size: u64,
     pub(crate) sorted: bool,
@@ -85,12 +87,14 @@ impl<'a> Task<'a> {
         let table = table_of(alloc, sig, problem)?;
         table.recall_well_made();
         let variables = variables(alloc, &table)?;
+        let sizes = node_sizes(alloc, table.nodes())?;
         Ok(Task {
             alloc,
             sig,
             problem,
             table,
             variables,
+            sizes,
             first,
             size,
             sorted,

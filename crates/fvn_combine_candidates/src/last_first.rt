@@ -25,7 +25,8 @@ use fvn_signature::Signature;
 use fvn_terms::{NoMemory, OpId};
 use std::alloc::Global;
 
-/// The most minimal solutions of the rows that define no column.
+/// The most minimal solutions on the way, where it is not tried hard: of all rows from the last on, and of those that define
+/// no column.
 const SOLUTIONS_LEFT: usize = 31;
 
 // The same row, in memory of its own.
@@ -63,11 +64,16 @@ fn system_left(alloc: Global, system: &System, left: &[bool]) -> Result<System, 
 }
 
 // Whether few minimal solutions solve the rows that are left.
-fn are_few_left(alloc: Global, system: &System, left: &[bool]) -> Result<bool, NoMemory>
+fn are_few_left(
+    alloc: Global,
+    system: &System,
+    left: &[bool],
+    most: usize,
+) -> Result<bool, NoMemory>
     requires { IsSystem system.now }
 {
     let rest = system_left(alloc, system, left)?;
-    match basis(alloc, &rest, SOLUTIONS_LEFT) {
+    match basis(alloc, &rest, most) {
         Ok(_) => Ok(true),
         Err(LinFault::TooMany(_)) => Ok(false),
         Err(LinFault::TooWide(_)) => Ok(false),
@@ -109,15 +115,24 @@ fn basis_in_order(
 
 // The minimal solutions of a sum operator's system: first from the last row on, and where these are too many on the way,
 // with the rows that are left first.
-fn basis_from_last(alloc: Global, sums: &Sums) -> Result<Option<Seq<Solution>>, NoMemory>
+fn basis_from_last(
+    alloc: Global,
+    sums: &Sums,
+    wide: bool,
+) -> Result<Option<Seq<Solution>>, NoMemory>
     requires { IsSystem sums.now.system }
     ensures { IfOk result (λ o. IfSome o (IsBasis sums.now.system)) }
 {
-    if let Some(solutions) = basis_in_order(alloc, sums, &[], SOLUTIONS_LEFT)? {
+    let most = if wide {
+        LISTED_SOLUTIONS
+    } else {
+        SOLUTIONS_LEFT
+    };
+    if let Some(solutions) = basis_in_order(alloc, sums, &[], most)? {
         return Ok(Some(solutions));
     }
     let left = rows_left(alloc, sums.system.rows.as_slice(), sums.system.columns)?;
-    if !are_few_left(alloc, &sums.system, left.as_slice())? {
+    if !are_few_left(alloc, &sums.system, left.as_slice(), most)? {
         return Ok(None);
     }
     let found = basis_in_order(alloc, sums, left.as_slice(), LISTED_SOLUTIONS)?;
@@ -133,13 +148,14 @@ fn listed_basis(
     headed: HeadedSums,
     sums: &Sums,
     sorted: bool,
+    wide: bool,
 ) -> Result<Option<Seq<Solution>>, NoMemory>
     requires associative { IsAssociative (axioms sig.now sums.now.operator) }
     requires closed { IsClosed sig.now table.now state.now }
     requires sums { AreSums sig.now table.now (class_of state.now) sums.now }
     ensures { IfOk result (λ o. IfSome o (IsBasis sums.now.system)) }
 {
-    match basis_from_last(alloc, sums)? {
+    match basis_from_last(alloc, sums, wide)? {
         None => Ok(None),
         Some(basis) => {
             if basis.len() <= MINIMAL_SOLUTIONS {
@@ -159,7 +175,8 @@ fn listed_basis(
 /// refused; nothing where they are not found in that order, or are so many that choices among them are not listed.
 ///
 /// How many choices there are is estimated by sorts, where these are heeded, and by heads: for each class an operator that
-/// is known to head its value, where one is known. What is said of heads is not relied on for more.
+/// is known to head its value, where one is known. What is said of heads is not relied on for more. With `wide` up to 127
+/// solutions may come up on the way, which takes some hundredths of a second where there are too many; else 31.
 pub fn bases_from_last(
     alloc: Global,
     sig: &Signature,
@@ -168,6 +185,7 @@ pub fn bases_from_last(
     reading: &Reading,
     heads: &[Option<OpId>],
     sorted: bool,
+    wide: bool,
 ) -> Result<Option<Vec<Seq<Solution>>>, NoMemory>
     requires closed { IsClosed sig.now table.now state.now }
     requires reading { IsReading sig.now table.now (class_of state.now) reading.now }
@@ -180,7 +198,7 @@ pub fn bases_from_last(
     };
     let mut bases = Vec::new(alloc);
     for i in 0..sums.len() {
-        match listed_basis(alloc, sig, table, state, headed, &sums[i], sorted)? {
+        match listed_basis(alloc, sig, table, state, headed, &sums[i], sorted, wide)? {
             None => return Ok(None),
             Some(basis) => bases.push(basis)?,
         }

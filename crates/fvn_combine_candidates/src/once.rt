@@ -134,14 +134,54 @@ fn is_free(columns: &[usize], parts: &[u32]) -> bool {
     true
 }
 
+// Whether the solution has twice what other operators are known to head: it stands for one summand, and is never taken.
+fn is_dead(heads: &[Option<OpId>], sums: &Sums, parts: &[u32]) -> bool {
+    let columns = sums.columns.as_slice();
+    let mut left: u32 = 1;
+    for j in 0..columns.len() {
+        if j >= parts.len() {
+            return false;
+        }
+        if !is_headed(heads, sums.operator, columns[j]) {
+            continue;
+        }
+        if parts[j] > left {
+            return true;
+        }
+        left -= parts[j];
+    }
+    false
+}
+
+// How many solutions are not known to be never taken.
+fn count_live(heads: &[Option<OpId>], sums: &Sums, solutions: &[Solution]) -> usize {
+    let mut count: usize = 0;
+    for solution in solutions {
+        if is_dead(heads, sums, solution.parts.as_slice()) {
+            continue;
+        }
+        count = count.saturating_add(1);
+    }
+    count
+}
+
 // Whether few solutions are zero in all these columns; of a neutral operator each of them is taken.
-fn are_few_free(sig: &Signature, sums: &Sums, columns: &[usize], solutions: &[Solution]) -> bool {
+fn are_few_free(
+    sig: &Signature,
+    headed: HeadedSums,
+    sums: &Sums,
+    columns: &[usize],
+    solutions: &[Solution],
+) -> bool {
     if is_neutral(sig, sums.operator) {
         return true;
     }
     let mut left = FREE_SOLUTIONS;
     for solution in solutions {
         if !is_free(columns, solution.parts.as_slice()) {
+            continue;
+        }
+        if is_dead(headed.heads, sums, solution.parts.as_slice()) {
             continue;
         }
         if left == 0 {
@@ -239,6 +279,8 @@ fn constant_columns(
 // Whether at most 24 solutions are zero in the lone columns; of a neutral operator each that is zero in all columns of
 // constants is taken, and is not counted.
 fn are_few_open(
+    headed: HeadedSums,
+    sums: &Sums,
     neutral: bool,
     lone: &[usize],
     constants: &[usize],
@@ -253,12 +295,156 @@ fn are_few_open(
         if neutral && is_free(constants, parts) {
             continue;
         }
+        if is_dead(headed.heads, sums, parts) {
+            continue;
+        }
         if left == 0 {
             return false;
         }
         left -= 1;
     }
     true
+}
+
+// How many bits number so many options; one more than are ever left where these are not enough.
+fn bits_of(options: usize) -> usize {
+    let mut most: usize = 1;
+    for bits in 0..MINIMAL_SOLUTIONS + 1 {
+        if options <= most {
+            return bits;
+        }
+        most = most.saturating_mul(2);
+    }
+    MINIMAL_SOLUTIONS + 1
+}
+
+// Whether the solution is marked as passed.
+fn is_passed(passed: &[bool], v: usize) -> bool {
+    match passed.get(v) {
+        None => true,
+        Some(is) => *is,
+    }
+}
+
+// Marks a solution as passed.
+fn pass(passed: &mut Vec<bool>, v: usize) {
+    if v < passed.len() {
+        passed[v] = true;
+    }
+}
+
+// A mark for each solution: whether it is known to be never taken.
+fn dead_marks(
+    alloc: Global,
+    heads: &[Option<OpId>],
+    sums: &Sums,
+    solutions: &[Solution],
+) -> Result<Vec<bool>, NoMemory> {
+    let mut marks = Vec::with_capacity(alloc, solutions.len())?;
+    for solution in solutions {
+        let dead = is_dead(heads, sums, solution.parts.as_slice());
+        marks.push(dead)?;
+    }
+    Ok(marks)
+}
+
+// How many solutions that are not passed are other than zero in the column.
+fn count_options(passed: &[bool], solutions: &[Solution], j: usize) -> usize {
+    let mut count: usize = 0;
+    for v in 0..solutions.len() {
+        if is_passed(passed, v) {
+            continue;
+        }
+        if has_part(solutions[v].parts.as_slice(), j) {
+            count = count.saturating_add(1);
+        }
+    }
+    count
+}
+
+// Passes the solutions that are other than zero in the column.
+fn pass_column(passed: &mut Vec<bool>, solutions: &[Solution], j: usize) {
+    for v in 0..solutions.len() {
+        if has_part(solutions[v].parts.as_slice(), j) {
+            pass(passed, v);
+        }
+    }
+}
+
+// The column of these that most solutions are left for, and how many.
+fn widest(passed: &[bool], solutions: &[Solution], columns: &[usize]) -> (usize, usize) {
+    let mut best = (0, 0);
+    for j in columns {
+        let options = count_options(passed, solutions, *j);
+        if options > best.1 {
+            best = (*j, options);
+        }
+    }
+    best
+}
+
+// How many of so many bits are left, where each of these columns takes one of the solutions that are left for it, the widest
+// first; nothing where they are not enough.
+fn bits_left(
+    passed: &mut Vec<bool>,
+    solutions: &[Solution],
+    columns: &[usize],
+    most: usize,
+) -> Option<usize> {
+    let mut left = most;
+    for _column in columns {
+        let (j, options) = widest(passed.as_slice(), solutions, columns);
+        let bits = bits_of(options);
+        if bits > left {
+            return None;
+        }
+        left -= bits;
+        pass_column(passed, solutions, j);
+    }
+    Some(left)
+}
+
+// Whether so many bits are enough for the solutions that are not passed; of a neutral operator each that is zero in all columns
+// of constants is taken, and needs none.
+fn are_bits_enough(
+    neutral: bool,
+    constants: &[usize],
+    passed: &[bool],
+    solutions: &[Solution],
+    most: usize,
+) -> bool {
+    let mut left = most;
+    for v in 0..solutions.len() {
+        if is_passed(passed, v) {
+            continue;
+        }
+        if neutral && is_free(constants, solutions[v].parts.as_slice()) {
+            continue;
+        }
+        if left == 0 {
+            return false;
+        }
+        left -= 1;
+    }
+    true
+}
+
+// Whether 24 bits number the choices: for each column that is taken once, the widest first, one of the solutions that are left
+// for it, and of the others whether they are taken.
+fn are_few_in_turn(
+    alloc: Global,
+    neutral: bool,
+    headed: HeadedSums,
+    sums: &Sums,
+    once: &[usize],
+    constants: &[usize],
+    solutions: &[Solution],
+) -> Result<bool, NoMemory> {
+    let mut passed = dead_marks(alloc, headed.heads, sums, solutions)?;
+    match bits_left(&mut passed, solutions, once, MINIMAL_SOLUTIONS) {
+        None => Ok(false),
+        Some(left) => Ok(are_bits_enough(neutral, constants, passed.as_slice(), solutions, left)),
+    }
 }
 
 /// Whether choices among so many minimal solutions are not too many: at most 24 of these are not in each choice; or there
@@ -273,13 +459,32 @@ pub(crate) fn are_choices_few(
     solutions: &[Solution],
 ) -> Result<bool, NoMemory> {
     let once = once_columns(alloc, headed.heads, sums, bounds)?;
-    if solutions.len() <= SHARED_OUT {
-        if are_few_free(sig, sums, once.as_slice(), solutions) {
+    if count_live(headed.heads, sums, solutions) <= SHARED_OUT {
+        if are_few_free(sig, headed, sums, once.as_slice(), solutions) {
             return Ok(true);
         }
     }
     let lone = lone_columns(alloc, sig, sums, once.as_slice(), solutions)?;
     let constants = constant_columns(alloc, headed, sums)?;
     let neutral = is_neutral(sig, sums.operator);
-    Ok(are_few_open(neutral, lone.as_slice(), constants.as_slice(), solutions))
+    if are_few_open(
+        headed,
+        sums,
+        neutral,
+        lone.as_slice(),
+        constants.as_slice(),
+        solutions,
+    ) {
+        return Ok(true);
+    }
+    let few = are_few_in_turn(
+        alloc,
+        neutral,
+        headed,
+        sums,
+        once.as_slice(),
+        constants.as_slice(),
+        solutions,
+    )?;
+    Ok(few)
 }

@@ -10,6 +10,7 @@ mod SortedValues
 mod HeadsTold
 mod Added
 mod Sizing
+mod Pairing
 mod EitherHead
 mod Clashes
 mod Standing

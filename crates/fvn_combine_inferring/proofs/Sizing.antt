@@ -48,7 +48,7 @@ same_symbols : (l m : List FlatTerm) → SameCounts l m → all_symbols l ≡ al
 same_symbols l m h = sym (all_symbols-sort l) ∙ ap all_symbols (sort_same_counts l m h) ∙ all_symbols-sort m
 
 -- a member of a list has no more symbols than all
-counted_symbols : (q : FlatTerm) (l : List FlatTerm) → 0 < count q l → symbols q ≤ all_symbols l
+pub counted_symbols : (q : FlatTerm) (l : List FlatTerm) → 0 < count q l → symbols q ≤ all_symbols l
 counted_symbols q [] h = absurd (omega (arith, h))
 counted_symbols q (p ∷ l) h = elim (cases_Bool (same_flat q p)) [
   | inl e ↦ (let n = ap symbols (same_flat_is q p e) in omega (arith, n))
@@ -57,7 +57,7 @@ counted_symbols q (p ∷ l) h = elim (cases_Bool (same_flat q p)) [
 
 module _ (d : Declarations) (f : OpId) (v : FlatTerm) (settled : Settled d v) where
   -- the symbols of a form that has summands, and of one that has none
-  of_parts : (t : FlatTerm) (l : List FlatTerm) → parts d f v ≡ t ∷ l → symbols v ≡ all_symbols (t ∷ l) + length l
+  pub of_parts : (t : FlatTerm) (l : List FlatTerm) → parts d f v ≡ t ∷ l → symbols v ≡ all_symbols (t ∷ l) + length l
   of_parts t l e = ap symbols (sym (sum_parts d f v settled) ∙ ap (sum d f) e) ∙ symbols_sum d f t l
 
   of_none : parts d f v ≡ [] → symbols v ≡ 1
@@ -67,7 +67,7 @@ module _ (d : Declarations) (f : OpId) (v : FlatTerm) (settled : Settled d v) wh
       ap symbols p.2 ∙ one
 
   -- a summand has no more symbols than the form
-  part_symbols : (q : FlatTerm) → 0 < count q (parts d f v) → symbols q ≤ symbols v
+  pub part_symbols : (q : FlatTerm) → 0 < count q (parts d f v) → symbols q ≤ symbols v
   part_symbols q h = at (parts d f v) refl
     where
       at : (l : List FlatTerm) → parts d f v ≡ l → symbols q ≤ symbols v

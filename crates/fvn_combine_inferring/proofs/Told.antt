@@ -206,7 +206,7 @@ module _ (d : Declarations) (t : NodeTable) (s : State) (sorted : Bool) where
         at [] e = ap (count q) e
         at (r ∷ l) e = ap (count q) (one_summand values go k few (let m = ap length e in omega (arith, m))) ∙ told (same_flat q (values (class_of s k))) refl
 
-    none_times : (values : ℕ → FlatTerm) (q : FlatTerm) (ys : List ℕ) → All (λ y. times d s f values q y ≡ 0) ys → sum_by (times d s f values q) ys ≡ 0
+    pub none_times : (values : ℕ → FlatTerm) (q : FlatTerm) (ys : List ℕ) → All (λ y. times d s f values q y ≡ 0) ys → sum_by (times d s f values q) ys ≡ 0
     none_times values q [] h = refl
     none_times values q (y ∷ ys) h =
         let P = λ (y : ℕ). times d s f values q y ≡ 0 in

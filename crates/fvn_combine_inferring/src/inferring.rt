@@ -1,21 +1,22 @@
 //! What is inferred of a state.
-ghost use Rattle.std.specs.Prelude.{◌≡◌, ◌≢◌, ◌↔◌, ◌⊎◌, ◌<◌, length, IfOk, IsTrue};
+ghost use Rattle.std.specs.Prelude.{◌≡◌, ◌≢◌, ◌↔◌, ◌⊎◌, ◌<◌, length, All, IfOk, OnOk, IsTrue};
 ghost use Rattle.fvn_terms.specs.Signature.{axioms};
 ghost use Rattle.fvn_terms.specs.Equality.{IsAssociative};
 ghost use Rattle.fvn_combine_bounds.specs.CombineChoicesTables.{HasSums};
 ghost use Rattle.fvn_combine_leaves.specs.Readings.{IsReading};
 ghost use Rattle.fvn_combine_nodes.specs.States.{IsClosed, class_of};
 ghost use Rattle.fvn_combine_inferring.specs.Inferred.{TellHeads, IsInferred};
-ghost use Rattle.fvn_combine_inferring.specs.inner.Sizes.{AreInside};
+ghost use Rattle.fvn_combine_inferring.specs.Rows.{AreSides};
+ghost use Rattle.fvn_combine_inferring.specs.inner.Holding.{ArePairs};
 ghost use Rattle.fvn_combine_inferring.specs.inner.Splits.{IsAddition};
 
 use crate::clashing::clashing;
 use crate::expressions::{Addition, addition_of};
 use crate::heads::Known;
-use crate::holding::note_holders;
-use crate::rows::row_at;
+use crate::holding::{Pairs, is_held_within, note_row};
+use crate::rows::{Row, row_at};
 use crate::rules::rule;
-use crate::sizes::{Inside, has_several, insides, is_circular};
+use crate::sizes::{has_several, insides, is_circular};
 use crate::standing_sums::stood_for;
 use fvn_combine_leaves::Reading;
 use fvn_combine_nodes::{State, Table};
@@ -69,67 +70,125 @@ impl Inferred {
     }
 }
 
-// What the row of node i says, where it is a sum.
-fn infer_at(
-    held: &mut Vec<Inside>,
+// What a row says, beside what its single summands say of sizes, which is noted.
+fn infer_row(
     alloc: Global,
     sig: &Signature,
     table: &Table,
     state: &State,
     known: &Known,
     addition: &Addition,
-    insides: &[Inside],
+    pairs: &mut Pairs,
+    row: &Row,
+) -> Result<Inferred, NoMemory>
+    requires closed { IsClosed sig.now table.now state.now }
+    requires sums { HasSums sig.now table.now }
+    requires heads { TellHeads sig.now table.now state.now known.now.sorted known.now.heads.items }
+    requires addition { IsAddition sig.now table.now state.now addition.now }
+    requires pairs { ArePairs sig.now table.now state.now known.now.sorted pairs.old }
+    requires left { All (λ k. k < length table.now.nodes) row.now.left.items }
+    requires right { All (λ k. k < length table.now.nodes) row.now.right.items }
+    requires sides { AreSides sig.now table.now state.now addition.now.operator row.now.left.items
+        row.now.right.items }
+    ensures is { IfOk result (IsInferred sig.now table.now state.now known.now.sorted) }
+    ensures pairs { OnOk result (ArePairs sig.now table.now state.now known.now.sorted pairs.new) }
+{
+    let left = row.left.as_slice();
+    let right = row.right.as_slice();
+    let insides = pairs.insides.as_slice();
+    let told = rule(sig, table, state, known, addition, insides, left, right);
+    if told.is_fact() {
+        return Ok(told);
+    }
+    note_row(pairs, sig, table, state, known, addition, row)?;
+    if told.is_something() {
+        return Ok(told);
+    }
+    let stood = stood_for(alloc, sig, table, state, known.sorted, addition, row)?;
+    Ok(stood)
+}
+
+// What the row of node i says, where it is a sum.
+fn infer_at(
+    alloc: Global,
+    sig: &Signature,
+    table: &Table,
+    state: &State,
+    known: &Known,
+    addition: &Addition,
+    pairs: &mut Pairs,
     i: usize,
 ) -> Result<Inferred, NoMemory>
     requires closed { IsClosed sig.now table.now state.now }
     requires sums { HasSums sig.now table.now }
     requires heads { TellHeads sig.now table.now state.now known.now.sorted known.now.heads.items }
     requires addition { IsAddition sig.now table.now state.now addition.now }
-    requires insides { AreInside sig.now table.now state.now known.now.sorted insides.now }
+    requires pairs { ArePairs sig.now table.now state.now known.now.sorted pairs.old }
     requires within { i < length table.now.nodes }
-    ensures { IfOk result (IsInferred sig.now table.now state.now known.now.sorted) }
+    ensures is { IfOk result (IsInferred sig.now table.now state.now known.now.sorted) }
+    ensures pairs { OnOk result (ArePairs sig.now table.now state.now known.now.sorted pairs.new) }
 {
     match row_at(alloc, sig, table, state, addition, i)? {
         None => Ok(Inferred::Nothing),
         Some(row) => {
-            let left = row.left.as_slice();
-            let right = row.right.as_slice();
-            let told = rule(sig, table, state, known, addition, insides, left, right);
-            if told.is_fact() {
-                return Ok(told);
-            }
-            note_holders(held, sig, table, state, known, addition, insides, left, right)?;
-            note_holders(held, sig, table, state, known, addition, insides, right, left)?;
-            if told.is_something() {
-                return Ok(told);
-            }
-            stood_for(alloc, sig, table, state, known.sorted, addition, &row)
+            let told = infer_row(alloc, sig, table, state, known, addition, pairs, &row)?;
+            Ok(told)
         }
     }
 }
 
 // What the sums by f say.
 fn infer_of(
-    held: &mut Vec<Inside>,
     alloc: Global,
     sig: &Signature,
     table: &Table,
     state: &State,
     known: &Known,
-    insides: &[Inside],
+    pairs: &mut Pairs,
     f: OpId,
 ) -> Result<Inferred, NoMemory>
     requires associative { IsAssociative (axioms sig.now f) }
     requires closed { IsClosed sig.now table.now state.now }
     requires sums { HasSums sig.now table.now }
     requires heads { TellHeads sig.now table.now state.now known.now.sorted known.now.heads.items }
-    requires insides { AreInside sig.now table.now state.now known.now.sorted insides.now }
-    ensures { IfOk result (IsInferred sig.now table.now state.now known.now.sorted) }
+    requires pairs { ArePairs sig.now table.now state.now known.now.sorted pairs.old }
+    ensures is { IfOk result (IsInferred sig.now table.now state.now known.now.sorted) }
+    ensures pairs { OnOk result (ArePairs sig.now table.now state.now known.now.sorted pairs.new) }
 {
     let addition = addition_of(alloc, sig, table, state, known, f)?;
     let mut asked = Inferred::Nothing;
     for i in 0..table.nodes().len() {
-        let told = infer_at(held, alloc, sig, table, state, known, &addition, insides, i)?;
+        let told = infer_at(alloc, sig, table, state, known, &addition, pairs, i)?;
+        if told.is_fact() {
+            return Ok(told);
+        }
+        asked = asked.or_told(told);
+    }
+    Ok(asked)
+}
+
+// What the sums of all operators say, each for itself.
+fn infer_each(
+    alloc: Global,
+    sig: &Signature,
+    table: &Table,
+    state: &State,
+    reading: &Reading,
+    known: &Known,
+    pairs: &mut Pairs,
+) -> Result<Inferred, NoMemory>
+    requires closed { IsClosed sig.now table.now state.now }
+    requires sums { HasSums sig.now table.now }
+    requires reading { IsReading sig.now table.now (class_of state.now) reading.now }
+    requires heads { TellHeads sig.now table.now state.now known.now.sorted known.now.heads.items }
+    requires pairs { ArePairs sig.now table.now state.now known.now.sorted pairs.old }
+    ensures is { IfOk result (IsInferred sig.now table.now state.now known.now.sorted) }
+    ensures pairs { OnOk result (ArePairs sig.now table.now state.now known.now.sorted pairs.new) }
+{
+    table.recall_well_made();
+    let mut asked = Inferred::Nothing;
+    for sums in reading.sums.as_slice() {
+        let told = infer_of(alloc, sig, table, state, known, pairs, sums.operator)?;
         if told.is_fact() {
             return Ok(told);
         }
@@ -154,38 +213,25 @@ pub fn infer(
     requires heads { TellHeads sig.now table.now state.now known.now.sorted known.now.heads.items }
     ensures { IfOk result (IsInferred sig.now table.now state.now known.now.sorted) }
 {
-    table.recall_well_made();
-    let pairs = insides(alloc, sig, table, state, reading, known)?;
-    if is_circular(pairs.as_slice(), has_several(reading)) {
+    let list = insides(alloc, sig, table, state, reading, known)?;
+    if is_circular(list.as_slice(), has_several(reading)) {
         return Ok(Inferred::Impossible);
     }
-    let mut held = Vec::new(alloc);
-    let mut asked = Inferred::Nothing;
-    for sums in reading.sums.as_slice() {
-        let told = infer_of(
-            &mut held,
-            alloc,
-            sig,
-            table,
-            state,
-            known,
-            pairs.as_slice(),
-            sums.operator,
-        )?;
-        if told.is_fact() {
-            return Ok(told);
-        }
-        asked = asked.or_told(told);
+    let held = Vec::new(alloc);
+    let mut pairs = Pairs {
+        insides: list,
+        held,
+    };
+    let told = infer_each(alloc, sig, table, state, reading, known, &mut pairs)?;
+    if told.is_fact() {
+        return Ok(told);
     }
-    if held.len() > 0 {
-        held.extend_from_slice(pairs.as_slice())?;
-        if is_circular(held.as_slice(), true) {
-            return Ok(Inferred::Impossible);
-        }
+    if is_held_within(&mut pairs.held, pairs.insides.as_slice())? {
+        return Ok(Inferred::Impossible);
     }
     let clash = clashing(sig, table, state, known);
     if clash.is_fact() {
         return Ok(clash);
     }
-    Ok(clash.or_told(asked))
+    Ok(clash.or_told(told))
 }

@@ -1,6 +1,7 @@
 //! What all values that go with a state have in common, before any question is asked.
 #![tactic(auto)]
 
+mod arguments;
 mod bags;
 mod bounds;
 mod cancelling;

@@ -6,9 +6,10 @@ ghost use Rattle.fvn_combine_bounds.specs.CombineChoicesTables.{HasSums};
 ghost use Rattle.fvn_combine_leaves.specs.Readings.{IsReading};
 ghost use Rattle.fvn_combine_nodes.specs.States.{IsClosed, class_of};
 ghost use Rattle.fvn_combine_inferring.specs.Inferred.{TellHeads};
-ghost use Rattle.fvn_combine_inferring.specs.inner.Sizes.{IsSaid, AreSaid, AreInside, AreNoted, followed_mark};
+ghost use Rattle.fvn_combine_inferring.specs.inner.Sizes.{IsSaid, AreSaid, AreInside, IsPair, AreNoted, followed_mark};
 ghost use Rattle.fvn_combine_inferring.specs.inner.Bounds.{HaveSummands};
 
+use crate::arguments::note_arguments;
 use crate::expressions::split_at;
 use crate::heads::Known;
 use crate::summed::has_some_summand;
@@ -35,6 +36,33 @@ pub struct Inside {
     pub small: usize,
     pub large: usize,
     pub proper: bool,
+}
+
+// Notes a pair of nodes, by the classes of both.
+pub(crate) fn note_pair(
+    list: &mut Vec<Inside>,
+    sig: &Signature,
+    table: &Table,
+    state: &State,
+    sorted: bool,
+    pair: Inside,
+) -> Result<(), NoMemory>
+    requires closed { IsClosed sig.now table.now state.now }
+    requires pair { IsPair sig.now table.now state.now sorted pair }
+    requires list { AreInside sig.now table.now state.now sorted list.old.items }
+    ensures { OnOk result (AreInside sig.now table.now state.now sorted list.new.items) }
+{
+    let _sig = sig;
+    let _table = table;
+    let _sorted = sorted;
+    let small = state.class_of(pair.small);
+    let large = state.class_of(pair.large);
+    list.push(Inside {
+        small,
+        large,
+        proper: pair.proper,
+    })?;
+    Ok(())
 }
 
 // Whether both classes have a summand for sure.
@@ -131,7 +159,7 @@ fn either(a: bool, b: bool) -> bool
     b
 }
 
-// Whether several operators are read: one alone makes no chains.
+// Whether several operators are read: where one alone is, no chains are looked for before its rows are read.
 pub(crate) fn has_several(reading: &Reading) -> bool {
     reading.sums.len() > 1
 }
@@ -215,7 +243,7 @@ fn is_reached(pairs: &[Inside], k: usize, l: usize) -> bool
     noted(&marks, l) == MORE
 }
 
-/// The classes that sums add, which have no more symbols than the sums.
+/// The classes that sums add, which have no more symbols than the sums, and arguments of other operators, which have fewer.
 pub(crate) fn insides(
     alloc: Global,
     sig: &Signature,
@@ -232,18 +260,7 @@ pub(crate) fn insides(
 {
     table.recall_well_made();
     let mut list = Vec::new(alloc);
-    for i in 0..table.nodes().len() {
-        match table.node(i) {
-            fvn_combine_nodes::Node::Var(_) => {}
-            fvn_combine_nodes::Node::App(g, ks) => {
-                if !sig.axioms(*g).is_sum() {
-                    for k in ks.as_slice() {
-                        list.push(Inside { small: state.class_of(*k), large: state.class_of(i), proper: true })?;
-                    }
-                }
-            }
-        }
-    }
+    note_arguments(&mut list, sig, table, state, known.sorted)?;
     for sums in reading.sums.as_slice() {
         note_insides(&mut list, sig, table, state, known, sums.operator)?;
     }

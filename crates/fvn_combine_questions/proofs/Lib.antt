@@ -5,3 +5,4 @@ mod Passing
 mod ColumnsOfLeaves
 mod AskedOfLeaves
 mod Labelled
+mod Ranking

@@ -2,4 +2,5 @@
 pub mod Swaps
 pub mod Past
 pub mod Touched
+pub mod Ranks
 pub mod Labels

@@ -4,10 +4,10 @@ ghost use Rattle.fvn_combine_leaves.specs.Bases.{AreBases};
 ghost use Rattle.fvn_combine_leaves.specs.Leaves.{IsNearLeaf, IsFirstQuestion, IsQuestion, IsFullQuestion};
 ghost use Rattle.fvn_combine_leaves.specs.Readings.{IsReading};
 
+use crate::best::{Asking, touched_question};
 use crate::constants::constants_question;
 use crate::identities::identity_question;
 use crate::swaps::undecided;
-use crate::touched::open_touched;
 use fvn_base::Seq;
 use fvn_combine_leaves::Reading;
 use fvn_combine_nodes::{State, Table};
@@ -75,5 +75,12 @@ pub fn question_on_touched(
     ensures { IsQuestion sig.now table.now heads.now state.now result }
 {
     table.recall_well_made();
-    open_touched(sig, ranks, state, reading, heads, bases)
+    let asking = Asking {
+        sig,
+        state,
+        reading,
+        heads,
+        ranks,
+    };
+    touched_question(&asking, bases)
 }

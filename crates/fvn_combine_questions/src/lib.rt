@@ -3,6 +3,7 @@
 
 mod asking;
 mod backwards;
+mod best;
 mod constants;
 mod identities;
 mod labels;

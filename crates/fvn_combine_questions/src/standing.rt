@@ -30,7 +30,7 @@ pub(crate) fn may_be_constant(reading: &Reading, n: usize, sums: &Sums, k: usize
     }
 }
 
-// The operator that is noted as what heads class k.
+// The operator that is noted of class k: as what heads it, or as what it is taken as a sum by.
 pub(crate) fn noted_head(heads: &[Option<OpId>], k: usize) -> Option<OpId>
     ensures { result ≡ slice_index_or heads.now k None }
 {
@@ -40,7 +40,7 @@ pub(crate) fn noted_head(heads: &[Option<OpId>], k: usize) -> Option<OpId>
     }
 }
 
-// Whether f is noted as what heads class k.
+// Whether f is noted of class k.
 pub(crate) fn is_noted(heads: &[Option<OpId>], f: OpId, k: usize) -> bool
     ensures { IsTrue result → slice_index_or heads.now k None ≡ Some f }
 {
@@ -50,7 +50,7 @@ pub(crate) fn is_noted(heads: &[Option<OpId>], f: OpId, k: usize) -> bool
     }
 }
 
-// Whether the operator, which has an identity, is noted as what heads class k.
+// Whether the operator, which has an identity, is noted of class k.
 pub(crate) fn is_noted_sum(sig: &Signature, heads: &[Option<OpId>], f: OpId, k: usize) -> bool
     ensures { IsTrue result → IsNotedIn sig.now heads.now f k }
 {

@@ -1,5 +1,4 @@
-//! Questions whether two classes are one that may be constants of one operator, and that a minimal
-//! solution has both of.
+//! Columns of a minimal solution, and questions whether two classes are one of which it has both and one is a single summand.
 //!
 //! A solution that is taken stands for one summand. Where two classes that it has are single summands and are known to
 //! differ, it is never taken, so that nothing is asked of it; nor is anything asked of classes that are noted as sums by the
@@ -19,9 +18,6 @@ ghost use Rattle.fvn_combine_questions.specs.inner.Touched.{
   IsDeadAt,
   IsDead,
   ArePastColumns,
-  IsPastSolution,
-  ArePastTouched,
-  AreAllPast,
 };
 
 use crate::backwards::backwards;
@@ -42,7 +38,7 @@ pub(crate) fn has_column(v: &Solution, i: usize) -> bool
 }
 
 // Whether the solution has column i, whose class may be a constant of the operator, and is not noted as a sum by it.
-fn stands(
+pub(crate) fn stands(
     sig: &Signature,
     reading: &Reading,
     heads: &[Option<OpId>],
@@ -146,7 +142,7 @@ fn is_dead_at(
 }
 
 // Whether the solution stands for no summand, by what is known of single summands.
-fn is_dead(
+pub(crate) fn is_dead(
     sig: &Signature,
     state: &State,
     reading: &Reading,
@@ -231,48 +227,8 @@ fn open_single(
     None
 }
 
-// A question whether two classes are one that the solution has and that may be constants of the operator: single summands
-// first, then the last columns.
-fn open_solution(
-    sig: &Signature,
-    state: &State,
-    reading: &Reading,
-    heads: &[Option<OpId>],
-    sums: &Sums,
-    v: &Solution,
-) -> Option<(usize, usize)>
-    requires naming { IsNaming state.now }
-    requires reading { IsWhole (length state.now.names) reading.now }
-    requires sums { IsWholeSums (length state.now.names) sums.now }
-    requires wide { length v.now.parts ≡ length sums.now.columns }
-    ensures { IsOpenPairOr state.now
-        (IsPastSolution reading.now sums.now state.now (IsNotedIn sig.now heads.now) v.now)
-        result }
-{
-    if is_dead(sig, state, reading, heads, sums, v) {
-        return None;
-    }
-    match open_single(sig, state, reading, heads, sums, v) {
-        None => {}
-        Some(pair) => return Some(pair),
-    }
-    let n = state.names.len();
-    let count = sums.columns.len();
-    for step in 0..count {
-        let i = backwards(count, step);
-        if !stands(sig, reading, heads, n, sums, v, i) {
-            continue;
-        }
-        match open_column(sig, state, reading, heads, sums, v, i) {
-            None => {}
-            Some(pair) => return Some(pair),
-        }
-    }
-    None
-}
-
-// The same of all solutions of the operator.
-fn open_solutions(
+// So it is with each solution of the operator that stands for a summand.
+fn open_singles(
     sig: &Signature,
     state: &State,
     reading: &Reading,
@@ -284,85 +240,8 @@ fn open_solutions(
     requires reading { IsWhole (length state.now.names) reading.now }
     requires sums { IsWholeSums (length state.now.names) sums.now }
     requires wide { AreWide (length sums.now.columns) basis.now }
-    ensures { IsOpenPairOr state.now
-        (ArePastTouched reading.now sums.now state.now (IsNotedIn sig.now heads.now) basis.now)
-        result }
+    ensures { IfSome result (IsOpenPair state.now) }
 {
-    for v in basis {
-        match open_solution(sig, state, reading, heads, sums, v) {
-            None => {}
-            Some(pair) => return Some(pair),
-        }
-    }
-    None
-}
-
-fn rank_of(ranks: &[usize], k: usize) -> usize {
-    match ranks.get(k) {
-        None => 0,
-        Some(r) => *r,
-    }
-}
-
-fn smaller(a: usize, b: usize) -> usize {
-    if a < b { a } else { b }
-}
-
-fn larger(a: usize, b: usize) -> usize {
-    if a < b { b } else { a }
-}
-
-fn best_column(sig: &Signature, ranks: &[usize], state: &State, reading: &Reading, heads: &[Option<OpId>], sums: &Sums, v: &Solution, i: usize, old: Option<(usize, usize, usize)>) -> Option<(usize, usize, usize)> {
-    let n = state.names.len();
-    let columns = sums.columns.as_slice();
-    let mut best = old;
-    let one = rank_of(ranks, columns[i]);
-    for j in 0..columns.len() {
-        if !stands(sig, reading, heads, n, sums, v, j) {
-            continue;
-        }
-        if are_told(state, reading, sums, i, j) {
-            continue;
-        }
-        let key = larger(one, rank_of(ranks, columns[j])) * 1000 + smaller(one, rank_of(ranks, columns[j]));
-        match best {
-            None => best = Some((columns[i], columns[j], key)),
-            Some((_, _, k)) => {
-                if key > k {
-                    best = Some((columns[i], columns[j], key));
-                }
-            }
-        }
-    }
-    best
-}
-
-fn best_solution(sig: &Signature, ranks: &[usize], state: &State, reading: &Reading, heads: &[Option<OpId>], sums: &Sums, v: &Solution, old: Option<(usize, usize, usize)>) -> Option<(usize, usize, usize)> {
-    if is_dead(sig, state, reading, heads, sums, v) {
-        return old;
-    }
-    let n = state.names.len();
-    let mut best = old;
-    let count = sums.columns.len();
-    for step in 0..count {
-        let i = backwards(count, step);
-        if !stands(sig, reading, heads, n, sums, v, i) {
-            continue;
-        }
-        best = best_column(sig, ranks, state, reading, heads, sums, v, i, best);
-    }
-    best
-}
-
-fn best_solutions(sig: &Signature, ranks: &[usize], state: &State, reading: &Reading, heads: &[Option<OpId>], sums: &Sums, basis: &[Solution], old: Option<(usize, usize, usize)>) -> Option<(usize, usize, usize)> {
-    let mut best = old;
-    for v in basis {
-        best = best_solution(sig, ranks, state, reading, heads, sums, v, best);
-    }
-    best
-}
-
-fn single_solutions(sig: &Signature, state: &State, reading: &Reading, heads: &[Option<OpId>], sums: &Sums, basis: &[Solution]) -> Option<(usize, usize)> {
     for v in basis {
         if is_dead(sig, state, reading, heads, sums, v) {
             continue;
@@ -375,30 +254,27 @@ fn single_solutions(sig: &Signature, state: &State, reading: &Reading, heads: &[
     None
 }
 
-pub(crate) fn open_touched(
+// So it is with each operator: the last ones first.
+pub(crate) fn single_question(
     sig: &Signature,
-    ranks: &[usize],
     state: &State,
     reading: &Reading,
     heads: &[Option<OpId>],
     bases: &[Seq<Solution>],
 ) -> Option<(usize, usize)>
+    requires naming { IsNaming state.now }
+    requires reading { IsWhole (length state.now.names) reading.now }
+    requires as_many { length bases.now ≡ length reading.now.sums }
+    requires wide { AreAllWide reading.now.sums bases.now }
+    ensures { IfSome result (IsOpenPair state.now) }
 {
     let sums = reading.sums.as_slice();
     for step in 0..sums.len() {
         let i = backwards(sums.len(), step);
-        match single_solutions(sig, state, reading, heads, &sums[i], bases[i].as_slice()) {
+        match open_singles(sig, state, reading, heads, &sums[i], bases[i].as_slice()) {
             None => {}
             Some(pair) => return Some(pair),
         }
     }
-    let mut best = None;
-    for step in 0..sums.len() {
-        let i = backwards(sums.len(), step);
-        best = best_solutions(sig, ranks, state, reading, heads, &sums[i], bases[i].as_slice(), best);
-    }
-    match best {
-        None => None,
-        Some((a, b, _)) => Some((a, b)),
-    }
+    None
 }

@@ -5,6 +5,7 @@ mod Tallies
 mod Placing
 mod SummandLists
 mod Runs
+mod PatternOrder
 mod VariableSteps
 mod PairingSteps
 mod Finding

@@ -1,5 +1,5 @@
 -- Sums of a search fit.
-use Rattle.std.proofs.Common.{◌≡◌, ℕ, ◌≤◌, ◌<◌, ◌^◌, true, false, List, [], ◌∷◌, length, reverse, take, drop, Some, refl, sym, ap, ◌∙◌, subst, arith}
+use Rattle.std.proofs.Common.{◌≡◌, ℕ, ◌≤◌, ◌<◌, ◌^◌, true, false, List, [], ◌∷◌, length, take, drop, Some, refl, sym, ap, ◌∙◌, subst, arith}
 use Rattle.std.specs.Prelude.{Contains, sum as std_sum}
 use Rattle.std.specs.List.{AllByRecursion}
 use denote.Ref.{Bor}
@@ -14,11 +14,11 @@ use Rattle.fvn_terms.specs.Term.{none}
 use Rattle.fvn_terms.specs.Signature.{kind, declared, axioms, HasKind, HaveKinds}
 use Rattle.fvn_terms.specs.Equality.{IsAssociative, constant, identity}
 use Rattle.fvn_forms.specs.Flat.{FlatTerm, FlatTerms, fvar, fapp, fnone, fmore, funpack, plain}
-use Rattle.fvn_forms.specs.InOrder.{count}
+use Rattle.fvn_forms.specs.InOrder.{count, SameCounts}
 use Rattle.fvn_forms.specs.Canon.{parts, empty_sum, sum, build}
 use Rattle.fvn_forms.specs.Settled.{IsPiece, FitsUnjoined, Settled}
 use Rattle.fvn_forms.specs.FitsKinds.{FitsKinds}
-use Rattle.fvn_forms.proofs.InOrder.{each_append, count_append}
+use Rattle.fvn_forms.proofs.InOrder.{count_append}
 use Rattle.fvn_forms.proofs.Sums.{parts_are_pieces, parts_are_settled, all_parts-pieces}
 use Rattle.fvn_forms.proofs.Build.{HasIdentity, sum_settled, build_sum}
 use Rattle.fvn_forms.proofs.KindsOfSums.{parts_of_kind, sum_of_forms_of_kind}
@@ -30,11 +30,6 @@ use Rattle.fvn_match.specs.declared.goals.SumGoal.{SumGoal}
 use Rattle.fvn_match.specs.declared.summands.Counted.{Counted}
 use Rattle.fvn_match.proofs.Runs.{each_among}
 use Rattle.fvn_match.proofs.SummandLists.{unjoined_none, parts_headed}
-use Rattle.fvn_match.proofs.SumSteps.{reverse_more}
-
-each_reverse : (P : FlatTerm → Type 0) (l : List FlatTerm) → AllByRecursion P l → AllByRecursion P (reverse l)
-each_reverse P [] h = tt
-each_reverse P (t ∷ l) h = subst (AllByRecursion P) (sym (reverse_more t l)) (each_append P (reverse l) (t ∷ []) (each_reverse P l h.1) (h.0, tt))
 
 module _ (d : Declarations) where
   each_flat : (k : SortId) (l : List FlatTerm) → AllByRecursion (Settled d) l → AllByRecursion (λ p. HasKind d (plain p) k) l → AllByRecursion (IsFlatOf d k) l
@@ -91,9 +86,9 @@ module _ (d : Declarations) where
               none_joined (fmore t ts) a g q h = cc
 
     -- the summands of a pair as a sum
-    pub started_fits : (p t : FlatTerm) → IsPair d p t → head_of p ≡ Some f → (patterns : Bor (List (Bor FlatTerm))) → references patterns.now ≡ reverse (args_of p) → (r : Counted) → IsCounted (parts d f t) r →
+    pub started_fits : (p t : FlatTerm) → IsPair d p t → head_of p ≡ Some f → (patterns : Bor (List (Bor FlatTerm))) → SameCounts (references patterns.now) (args_of p) → (r : Counted) → IsCounted (parts d f t) r →
         (pieces : Bor (List (Bor FlatTerm))) → pieces.now ≡ r.pieces.items → (left : Bor (List ℕ)) → left.now ≡ r.left.items → std_sum left.now < 2 ^ 64 → (seen : ℕ) → SumFits d (record { op = f; patterns = patterns; pieces = pieces; left = left; seen = seen })
-    started_fits p t pair head patterns are r counted pieces pieces_are left left_is small seen =
+    started_fits p t pair head patterns same r counted pieces pieces_are left left_is small seen =
         let s = pair.pattern in
         let k = rank_of p s pair.of_kind pair.pattern_kind head in
         let named = ap references pieces_are in
@@ -101,7 +96,7 @@ module _ (d : Declarations) where
           associative = assoc;
           rank = k.rank;
           listed = k.listed;
-          patterns = subst (AllByRecursion (IsFlatOf d (kind d k.rank.result))) (sym are) (each_reverse (IsFlatOf d (kind d k.rank.result)) (args_of p) (subst (AllByRecursion (IsFlatOf d (kind d k.rank.result))) (parts_are_args p s pair.of_kind pair.pattern_kind head) (summands_flat (kind d k.rank.result) p s (subst (HasKind d (plain p)) (sym k.gives) pair.pattern_kind))));
+          patterns = each_among (IsFlatOf d (kind d k.rank.result)) (args_of p) (references patterns.now) (λ q some. let e = same q in omega arith) (subst (AllByRecursion (IsFlatOf d (kind d k.rank.result))) (parts_are_args p s pair.of_kind pair.pattern_kind head) (summands_flat (kind d k.rank.result) p s (subst (HasKind d (plain p)) (sym k.gives) pair.pattern_kind)));
           pieces = subst (AllByRecursion (IsFlatOf d (kind d k.rank.result))) (sym named) (each_among (IsFlatOf d (kind d k.rank.result)) (parts d f t) (references r.pieces.items) counted.among (summands_flat (kind d k.rank.result) t pair.target (subst (HasKind d (plain t)) (sym k.gives) pair.target_kind)));
           each_is_one = subst (AllByRecursion (IsPiece d f)) (sym named) (each_among (IsPiece d f) (parts d f t) (references r.pieces.items) counted.among (parts_are_pieces d f t pair.target));
           distinct = λ q. subst (λ l. count q l ≤ 1) (sym named) (counted.distinct q);

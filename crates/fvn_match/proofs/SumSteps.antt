@@ -1,15 +1,15 @@
 -- What a sum asks, taken apart.
-use Rattle.std.proofs.Common.{◌≡◌, ℕ, ◌+◌, ◌-◌, ◌*◌, ◌/◌, ◌≤◌, ◌<◌, zero, suc, List, [], ◌∷◌, ◌++◌, length, map, replicate, reverse, drop, Some, None, refl, sym, ap, ◌∙◌, subst, arith}
+use Rattle.std.proofs.Common.{◌≡◌, ℕ, ◌+◌, ◌-◌, ◌*◌, ◌/◌, ◌≤◌, ◌<◌, zero, suc, List, [], ◌∷◌, ◌++◌, length, map, replicate, drop, Some, None, refl, sym, ap, ◌∙◌, subst, arith}
 use Rattle.std.specs.Prelude.{◌↔◌, sum as std_sum}
 use Rattle.std.specs.List.{AllZip, AllByRecursion}
-use Rattle.std.proofs.lemmas.List.{reverse-append, length-append}
+use Rattle.std.proofs.lemmas.List.{length-append}
 use Rattle.std.proofs.Math.Nat.{mul-div_cancel_left}
 use Rattle.fvn_terms.specs.declared.plain.OpId.{OpId}
 use Rattle.fvn_terms.specs.declared.declarations.Declarations.{Declarations}
 use Rattle.fvn_terms.specs.Signature.{axioms}
 use Rattle.fvn_terms.specs.Equality.{IsAssociative, identity}
 use Rattle.fvn_forms.specs.Flat.{FlatTerm}
-use Rattle.fvn_forms.specs.InOrder.{count}
+use Rattle.fvn_forms.specs.InOrder.{count, SameCounts}
 use Rattle.fvn_forms.specs.Canon.{parts, all_parts, sum, inst}
 use Rattle.fvn_forms.specs.Settled.{IsPiece, SettledValues}
 use Rattle.fvn_forms.proofs.InOrder.{count_append, count_sort}
@@ -23,6 +23,7 @@ use Rattle.fvn_match.specs.inner.Goals.{SumsHold, Asked}
 use Rattle.fvn_match.specs.declared.goals.Goals.{Goals, Done, Lists', Pairs'}
 use Rattle.fvn_match.specs.declared.goals.SumGoal.{SumGoal}
 use Rattle.fvn_match.proofs.Advancing.{sum-cons}
+use Rattle.fvn_match.proofs.PatternOrder.{adds_same}
 use Rattle.fvn_match.proofs.Tallies.{count_repeated, length_repeated, each_repeated, same_length, tally_elsewhere, zeros-tally, tally_none, tally-reduced, fits_quotients, numbers_in, fits_numbers, numbers_make_up}
 
 -- goals with one sum more ask it too
@@ -34,9 +35,6 @@ asked_more d (Lists' ps ts r rest) more sums X c same =
 asked_more d (Pairs' pairs r rest) more sums X c same =
     let k = asked_more d rest more sums X c same in
     (λ h. let j = k.0 h.1 in (j.0, (h.0, j.1)), λ h. (h.1.0, k.1 (h.0, h.1.1)))
-
-pub reverse_more : (t : FlatTerm) (ts : List FlatTerm) → reverse (t ∷ ts) ≡ reverse ts ++ t ∷ []
-reverse_more t ts = reverse-append (t ∷ []) ts
 
 pub length_numbers : (m ts : List FlatTerm) → length (numbers_in ts m) ≡ length ts
 length_numbers m [] = refl
@@ -78,15 +76,9 @@ module _ (d : Declarations) (f : OpId) (c : Values) where
       let e = count_summands-append q ps us in
       omega arith
 
-  pub count_summands-reverse : (q : FlatTerm) (ps : List FlatTerm) → count q (summands_of (reverse ps)) ≡ count q (summands_of ps)
-  count_summands-reverse q [] = refl
-  count_summands-reverse q (p ∷ ps) =
-      let a = ap (λ l. count q (summands_of l)) (reverse_more p ps) in
-      let b = count_summands-append q (reverse ps) (p ∷ []) in
-      let e = count_append q (parts d f (inst d c p)) [] in
-      let g = count_append q (parts d f (inst d c p)) (summands_of ps) in
-      let h = count_summands-reverse q ps in
-      omega arith
+  -- in another order they have the same summands
+  pub count_summands-same : (q : FlatTerm) (ps us : List FlatTerm) → SameCounts ps us → count q (summands_of ps) ≡ count q (summands_of us)
+  count_summands-same q ps us same = adds_same (λ l. count q (summands_of l)) (λ p. count q (parts d f (inst d c p))) (λ p l. count_append q (parts d f (inst d c p)) (summands_of l)) ps us same
 
   pub count_summands-replicate : (q : FlatTerm) (k : ℕ) (p : FlatTerm) → count q (summands_of (replicate k p)) ≡ k * count q (parts d f (inst d c p))
   count_summands-replicate q zero p = omega arith

@@ -1,5 +1,5 @@
 -- What is found for a pair whose pattern is a sum, by what is found for its summands.
-use Rattle.std.proofs.Common.{◌≡◌, List, map, reverse, Option, Some, sym, ap, ◌∙◌}
+use Rattle.std.proofs.Common.{◌≡◌, List, map, Option, Some, sym, ap, ◌∙◌}
 use Rattle.std.specs.Prelude.{◌↔◌, Result, IfOk}
 use Rattle.fvn_terms.specs.declared.plain.Var.{Var}
 use Rattle.fvn_terms.specs.declared.plain.OpId.{OpId}
@@ -7,7 +7,7 @@ use Rattle.fvn_terms.specs.declared.declarations.Declarations.{Declarations}
 use Rattle.fvn_terms.specs.Signature.{axioms}
 use Rattle.fvn_terms.specs.Equality.{IsAssociative}
 use Rattle.fvn_forms.specs.Flat.{FlatTerm}
-use Rattle.fvn_forms.specs.InOrder.{count}
+use Rattle.fvn_forms.specs.InOrder.{count, SameCounts}
 use Rattle.fvn_forms.specs.Canon.{parts, all_parts, inst}
 use Rattle.fvn_forms.specs.FitsKinds.{FitsKinds}
 use Rattle.fvn_forms.proofs.Instances.{inst_parts_iff}
@@ -21,15 +21,14 @@ use Rattle.fvn_match.specs.declared.goals.Goals.{Goals}
 use Rattle.fvn_match.specs.declared.goals.SumGoal.{SumGoal}
 use Rattle.fvn_match.specs.declared.summands.Counted.{Counted}
 use Rattle.fvn_match.proofs.Finding.{if_found_same}
-use Rattle.fvn_match.proofs.SumSteps.{asked_more, summands_of, count_summands-reverse}
+use Rattle.fvn_match.proofs.SumSteps.{asked_more, summands_of, count_summands-same}
 use Rattle.fvn_match.proofs.SumFitting.{parts_are_args}
 
 module _ (d : Declarations) (fits : FitsKinds d) (f : OpId) (assoc : IsAssociative (axioms d f)) (p t : FlatTerm) (pair : IsPair d p t) (head : head_of p ≡ Some f)
-    (goal : SumGoal) (op_is : goal.op ≡ f) (patterns_are : references goal.patterns.now ≡ reverse (args_of p)) (r : Counted) (counted : IsCounted (parts d f t) r) (pieces_are : goal.pieces.now ≡ r.pieces.items) (left_is : goal.left.now ≡ r.left.items) where
+    (goal : SumGoal) (op_is : goal.op ≡ f) (same : SameCounts (references goal.patterns.now) (args_of p)) (r : Counted) (counted : IsCounted (parts d f t) r) (pieces_are : goal.pieces.now ≡ r.pieces.items) (left_is : goal.left.now ≡ r.left.items) where
   pattern_counts : (c : Values) (q : FlatTerm) → count q (summands_of d f c (references goal.patterns.now)) ≡ count q (all_parts d f (map (inst d c) (parts d f p)))
   pattern_counts c q =
-      ap (λ l. count q (summands_of d f c l)) patterns_are
-      ∙ count_summands-reverse d f c q (args_of p)
+      count_summands-same d f c q (references goal.patterns.now) (args_of p) same
       ∙ ap (λ l. count q (summands_of d f c l)) (sym (parts_are_args d fits f assoc p pair.pattern pair.of_kind pair.pattern_kind head))
 
   target_counts : (q : FlatTerm) → tally q (references goal.pieces.now) goal.left.now ≡ count q (parts d f t)

@@ -1,11 +1,11 @@
 -- How the weight of goals falls.
-use Rattle.std.proofs.Common.{◌≡◌, ℕ, ◌+◌, ◌≤◌, zero, suc, List, [], ◌∷◌, length, reverse, drop, get_or, Some, refl, ap, arith}
+use Rattle.std.proofs.Common.{◌≡◌, ℕ, ◌+◌, ◌≤◌, zero, suc, List, [], ◌∷◌, length, drop, get_or, Some, refl, ap, arith}
 use Rattle.fvn_terms.specs.declared.plain.OpId.{OpId}
 use Rattle.fvn_forms.specs.Flat.{FlatTerm, FlatTerms, fvar, fapp, fnone, fmore, funpack}
+use Rattle.fvn_forms.specs.InOrder.{SameCounts}
 use Rattle.fvn_flat.specs.Forms.{head_of, args_of}
 use Rattle.fvn_match.specs.inner.Goals.{weight, weights, weight_of}
-use Rattle.fvn_match.proofs.SumSteps.{reverse_more}
-use Rattle.fvn_match.proofs.KnownSteps.{weight_of-append}
+use Rattle.fvn_match.proofs.PatternOrder.{adds_same}
 
 weight_of_funpack : (ts : FlatTerms) → weight_of (funpack ts) ≡ weights ts
 weight_of_funpack fnone = refl
@@ -16,13 +16,9 @@ pub weight_args : (p : FlatTerm) (f : OpId) → head_of p ≡ Some f → weight_
 weight_args (fvar x) f e = cc
 weight_args (fapp g joined ts) f e = ap (λ n. n + 1) (weight_of_funpack ts)
 
-pub weight_of-reverse : (l : List FlatTerm) → weight_of (reverse l) ≡ weight_of l
-weight_of-reverse [] = refl
-weight_of-reverse (t ∷ l) =
-    let a = ap weight_of (reverse_more t l) in
-    let b = weight_of-append (reverse l) (t ∷ []) in
-    let c = weight_of-reverse l in
-    omega arith
+-- in another order they weigh the same
+pub weight_of-same : (l m : List FlatTerm) → SameCounts l m → weight_of l ≡ weight_of m
+weight_of-same l m same = adds_same weight_of (λ t. weight t + 2) (λ t l. refl) l m same
 
 pub weight_of-first : (l : List FlatTerm) (t : FlatTerm) → 1 ≤ length l → t ≡ get_or l 0 t → weight t + 2 + weight_of (drop 1 l) ≡ weight_of l
 weight_of-first [] t some e = absurd (omega arith)

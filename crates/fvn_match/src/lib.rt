@@ -11,6 +11,7 @@ mod known;
 mod matching;
 mod pairing;
 mod refusing;
+mod rests;
 mod search;
 mod summands;
 mod variables;

@@ -29,7 +29,8 @@ use crate::goals::{Bound, Goals, Latest, Pairs, SumGoal};
 use crate::known::{has_known, without_known};
 use crate::pairing::{has_sort_of, lacks_sort};
 use crate::refusing::is_hopeless;
-use crate::summands::{after, alike, count_pieces, is_headed, reversed, summands};
+use crate::rests::rests_last;
+use crate::summands::{after, alike, count_pieces, is_headed, summands};
 use crate::waiting::{first_sum, other_sums, with_sum};
 use crate::wholes::{are_zero, room, whole};
 use fvn_flat::{Flat, Subst};
@@ -343,7 +344,7 @@ impl Search<'_> {
         if lacks_sort(self.sig, p, t) {
             return Ok(None);
         }
-        let patterns = reversed(self.alloc, p.args())?;
+        let patterns = rests_last(self.alloc, self.sig, f, p.args())?;
         let counted = count_pieces(self.alloc, summands(self.sig, f, t))?;
         let goal = SumGoal {
             op: f,

@@ -1,5 +1,5 @@
 //! Summands of flat terms, as different pieces with their numbers.
-ghost use Rattle.std.specs.Prelude.{◌≡◌, ◌≤◌, ◌<◌, ◌↔◌, [], ◌∷◌, length, reverse, take, drop, Some, IsTrue, IfOk};
+ghost use Rattle.std.specs.Prelude.{◌≡◌, ◌≤◌, ◌<◌, ◌↔◌, [], ◌∷◌, length, take, drop, Some, IsTrue, IfOk};
 ghost use Rattle.fvn_terms.specs.Signature.{axioms};
 ghost use Rattle.fvn_terms.specs.Equality.{IsAssociative, identity};
 ghost use Rattle.fvn_forms.specs.InOrder.{InOrder};
@@ -94,20 +94,6 @@ pub(crate) fn count_pieces<'a>(alloc: Global, ts: &'a [Flat]) -> Result<Counted<
         rest = &rest[k..];
     }
     Ok(Counted { pieces, left })
-}
-
-// References to the terms of a list, the last first.
-#[inline(never)]
-pub(crate) fn reversed<'a>(alloc: Global, ts: &'a [Flat]) -> Result<Vec<&'a Flat>, NoMemory>
-    ensures { IfOk result (λ all. references all.items ≡ reverse ts.now) }
-{
-    let mut all = Vec::new(alloc);
-    let mut i = ts.len();
-    while i != 0 {
-        i -= 1;
-        all.push(&ts[i])?;
-    }
-    Ok(all)
 }
 
 // Whether the piece is the term, and some are left.

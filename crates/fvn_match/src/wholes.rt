@@ -134,7 +134,7 @@ fn gives(sig: &Signature, rank: &Rank, s: SortId) -> bool
 }
 
 // Whether no sum of the operator has the sort.
-fn gives_none(sig: &Signature, f: OpId, s: SortId) -> bool
+pub(crate) fn gives_none(sig: &Signature, f: OpId, s: SortId) -> bool
     ensures { IsTrue result → GivesNone sig.now f s }
 {
     if sig.kind(s) == s {

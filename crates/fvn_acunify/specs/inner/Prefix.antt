@@ -25,21 +25,25 @@ useful_part constants j v = if nat_lt 1 (touched constants v) then 0 else slice_
 abbrev pub useful_sum : List ℕ → ℕ → List Solution → ℕ
 useful_sum constants j list = sum_by (λ v. useful_part constants j v.parts) list
 
--- a column is above zero with its sum and the lower solutions that may be taken together
-abbrev pub CanBeFilled : List ℕ → List Solution → List ℕ → ℕ → Type 0
-CanBeFilled constants lower sums j = 0 < slice_index sums j + useful_sum constants j lower
+-- a column in which this vector is above zero, or that it does not have
+abbrev pub IsChanged : List ℕ → ℕ → Type 0
+IsChanged changed j = 0 < slice_index_or changed j 1
+
+-- a column, if it is one of these, is above zero with its sum and the lower solutions that may be taken together
+abbrev pub CanBeFilled : List ℕ → List ℕ → List Solution → List ℕ → ℕ → Type 0
+CanBeFilled changed constants lower sums j = IsChanged changed j → 0 < slice_index sums j + useful_sum constants j lower
 
 -- a column has at most 1, and has or can get it
-abbrev pub CanBeOne : List ℕ → List Solution → List ℕ → ℕ → Type 0
-CanBeOne constants lower sums c = (slice_index sums c ≤ 1) × CanBeFilled constants lower sums c
+abbrev pub CanBeOne : List ℕ → List ℕ → List Solution → List ℕ → ℕ → Type 0
+CanBeOne changed constants lower sums c = (slice_index sums c ≤ 1) × CanBeFilled changed constants lower sums c
 
 -- with these column sums and any of the lower solutions the bounds can still be kept
-pub record AreBoundsOpen (bounds : ColumnBounds) (constants : List ℕ) (lower : List Solution) (sums : List ℕ) : Type 0 where
+pub record AreBoundsOpen (bounds : ColumnBounds) (changed constants : List ℕ) (lower : List Solution) (sums : List ℕ) : Type 0 where
   pub most : All (λ j. slice_index sums j ≤ 1) bounds.at_most_one
-  pub least : All (CanBeFilled constants lower sums) bounds.at_least_one
+  pub least : All (CanBeFilled changed constants lower sums) bounds.at_least_one
 
 -- and every column can still get what is asked
-pub record IsOpen (constants : List ℕ) (may_be_zero : List Bool) (bounds : ColumnBounds) (lower : List Solution) (sums : List ℕ) : Type 0 where
-  pub filled : (j : ℕ) → slice_index_or may_be_zero j true ≡ false → CanBeFilled constants lower sums j
-  pub once : All (CanBeOne constants lower sums) constants
-  pub bounded : AreBoundsOpen bounds constants lower sums
+pub record IsOpen (changed constants : List ℕ) (may_be_zero : List Bool) (bounds : ColumnBounds) (lower : List Solution) (sums : List ℕ) : Type 0 where
+  pub filled : (j : ℕ) → slice_index_or may_be_zero j true ≡ false → CanBeFilled changed constants lower sums j
+  pub once : All (CanBeOne changed constants lower sums) constants
+  pub bounded : AreBoundsOpen bounds changed constants lower sums

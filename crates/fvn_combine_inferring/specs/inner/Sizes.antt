@@ -1,5 +1,5 @@
 -- Sizes of values: classes whose values have no more symbols than those of others, or fewer.
-use Rattle.std.specs.Prelude.{◌≡◌, ℕ, ◌≤◌, ◌<◌, Bool, true, false, zero, suc, List, slice_index_or, All}
+use Rattle.std.specs.Prelude.{◌≡◌, ℕ, ◌≤◌, ◌<◌, Bool, true, false, zero, suc, List, length, slice_index_or, All}
 use Rattle.fvn_terms.specs.declared.plain.OpId.{OpId}
 use Rattle.fvn_terms.specs.declared.declarations.Declarations.{Declarations}
 use Rattle.fvn_forms.specs.Flat.{FlatTerm, symbols}
@@ -47,6 +47,16 @@ module _ (d : Declarations) (t : NodeTable) (s : State) (sorted : Bool) where
   -- the pairs hold of the sizes of all values that go with the state
   abbrev pub AreInside : List Inside → Type 0
   AreInside list = (values : ℕ → FlatTerm) → GoWithSorts d t s sorted values → AreSaid (size s values) list
+
+  -- a pair of nodes holds of the sizes of all values that go with the state
+  pub record IsPair (e : Inside) : Type 0 where
+    pub small : e.small < length t.nodes
+    pub large : e.large < length t.nodes
+    pub said : (values : ℕ → FlatTerm) → GoWithSorts d t s sorted values → IsSaid (size s values) e
+
+  -- the class of node k has fewer symbols than that of node i
+  abbrev pub HasFewer : (i k : ℕ) → Type 0
+  HasFewer i k = IsPair (record { small = k; large = i; proper = true })
 
   -- whatever values go with the state, that of the class of node k is no summand of that of the class of node l
   abbrev pub IsNoSummand : OpId → ℕ → ℕ → Type 0

@@ -23,7 +23,7 @@ AreAllWide sums bases = (i : ℕ) (e : Sums) → slice_get sums i ≡ Some e →
 abbrev pub HasOtherHead : Reading → Sums → ℕ → Type 0
 HasOtherHead r e k = (g : OpId) × (head_of r k ≡ Some g) × (g ≢ e.operator)
 
--- f, which has an identity, is noted as what heads class k
+-- f, which has an identity, is noted of class k
 abbrev pub IsNotedIn : Declarations → List (Option OpId) → OpId → ℕ → Type 0
 IsNotedIn d heads f k = (slice_index_or heads k None ≡ Some f) × (HasNoIdentity (axioms d f) → ⊥)
 

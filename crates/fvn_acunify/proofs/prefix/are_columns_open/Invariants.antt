@@ -4,4 +4,4 @@ use Rattle.fvn_acunify.specs.inner.Prefix.{CanBeFilled}
 use Rattle.fvn_acunify.proofs.prefix.are_columns_open.Given as goal
 
 abbrev pub invariant-loop-j : goal.invariant-loop-j
-invariant-loop-j l = (k : ℕ) → k < l.j → slice_index_or l.may_be_zero k true ≡ false → CanBeFilled l.constants l.lower l.sums k
+invariant-loop-j l = (k : ℕ) → k < l.j → slice_index_or l.may_be_zero k true ≡ false → CanBeFilled l.changed l.constants l.lower l.sums k

@@ -7,8 +7,8 @@ use Rattle.fvn_acunify.proofs.prefix.are_reached.Goals as goal
 
 pub loop-j-preserved : goal.loop-j-preserved
 loop-j-preserved c =
-    All-more (CanBeFilled c.args.constants.now c.args.lower.now c.args.sums.now) c.args.at_least_one.now c.loop-j.j-index 0 c.loop-j-test.true c.loop-j.invariant (c.is_reached.ensures.0 c.if-not-is_reached.false)
+    All-more (CanBeFilled c.args.changed.now c.args.constants.now c.args.lower.now c.args.sums.now) c.args.at_least_one.now c.loop-j.j-index 0 c.loop-j-test.true c.loop-j.invariant (c.is_reached.ensures.0 c.if-not-is_reached.false)
 
 pub returns : goal.returns
 returns c =
-    (λ _. All-same (CanBeFilled c.args.constants.now c.args.lower.now c.args.sums.now) c.args.at_least_one.now _ (sym (take_all c.loop-j.j-index c.args.at_least_one.now c.loop-j-test.false)) c.loop-j.invariant, λ _. refl)
+    (λ _. All-same (CanBeFilled c.args.changed.now c.args.constants.now c.args.lower.now c.args.sums.now) c.args.at_least_one.now _ (sym (take_all c.loop-j.j-index c.args.at_least_one.now c.loop-j-test.false)) c.loop-j.invariant, λ _. refl)

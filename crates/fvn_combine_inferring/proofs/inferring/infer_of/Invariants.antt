@@ -1,6 +1,10 @@
--- What is kept is said of the state.
+-- What is kept is said of the state, and what is noted holds.
 use Rattle.fvn_combine_inferring.specs.Inferred.{IsInferred}
+use Rattle.fvn_combine_inferring.specs.inner.Holding.{ArePairs}
 use Rattle.fvn_combine_inferring.proofs.inferring.infer_of.Given as goal
 
 abbrev pub invariant-loop-i : goal.invariant-loop-i
-invariant-loop-i l = IsInferred l.sig l.table l.state l.known.sorted l.asked
+invariant-loop-i l = record {
+  told : IsInferred l.sig l.table l.state l.known.sorted l.asked;
+  pairs : ArePairs l.sig l.table l.state l.known.sorted l.pairs;
+}

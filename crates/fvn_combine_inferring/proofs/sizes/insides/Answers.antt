@@ -5,8 +5,8 @@ use Rattle.fvn_combine_leaves.proofs.ReadOfState.{sum_operator}
 use Rattle.fvn_combine_inferring.specs.inner.Sizes.{IsSaid, AreSaid, size}
 use Rattle.fvn_combine_inferring.proofs.sizes.insides.Goals as goal
 
-pub loop-sums-init : goal.loop-sums-init
-loop-sums-init c values go = subst (AreSaid (size c.args.state.now values)) (sym c.new-list.ensures.items) (All-nil (IsSaid (size c.args.state.now values)))
+pub note_arguments-requires-clause-list : goal.note_arguments-requires-clause-list
+note_arguments-requires-clause-list c values go = subst (AreSaid (size c.args.state.now values)) (sym c.new-list.ensures.items) (All-nil (IsSaid (size c.args.state.now values)))
 
 pub note_insides-requires-clause-associative : goal.note_insides-requires-clause-associative
 note_insides-requires-clause-associative c =

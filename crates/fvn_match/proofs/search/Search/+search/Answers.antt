@@ -1,6 +1,6 @@
 -- What each call of the search is given, and what it finds.
 use Rattle.std.proofs.Common.{◌≡◌, ◌≤◌, [], ◌∷◌, length, get_or, Some, refl, sym, ap, ◌∙◌, subst, arith}
-use Rattle.std.specs.Prelude.{IfOk, ◌*◌, reverse, sum as std_sum}
+use Rattle.std.specs.Prelude.{IfOk, ◌*◌, sum as std_sum}
 use Rattle.std.specs.List.{AllZip, AllByRecursion}
 use Rattle.std.proofs.lemmas.Bool.{false≢true, eqb-true}
 use Rattle.std.proofs.lemmas.List.{nil_from_length}
@@ -9,6 +9,7 @@ use Rattle.fvn_terms.specs.Equality.{is_sum}
 use Rattle.fvn_terms.proofs.AxiomWords.{sums_associate}
 use Rattle.fvn_forms.specs.InOrder.{InOrder}
 use Rattle.fvn_forms.specs.Canon.{inst}
+use Rattle.fvn_flat.specs.Forms.{args_of}
 use Rattle.fvn_match.specs.inner.Choices.{IsWithin}
 use Rattle.fvn_match.specs.inner.Summands.{references, IsCounted}
 use Rattle.fvn_match.specs.inner.Candidates.{IsSolution, Finds}
@@ -20,6 +21,7 @@ use Rattle.fvn_match.specs.declared.goals.SumGoal.{SumGoal}
 use Rattle.fvn_match.proofs.AxiomTests.{free_at, commutative_at}
 use Rattle.fvn_match.proofs.Advancing.{zeros_within, rises, place_value_bounded, RisesIf}
 use Rattle.fvn_match.proofs.SummandLists.{parts_in_order}
+use Rattle.fvn_match.proofs.PatternOrder.{renamed_same}
 use Rattle.fvn_match.proofs.Runs.{length_references, references-drop}
 use Rattle.fvn_match.proofs.PairSteps.{variable_is, variable_or_head}
 use Rattle.fvn_match.specs.inner.Apart.{IsTakenApart}
@@ -31,7 +33,7 @@ use Rattle.fvn_match.proofs.ChoiceFinding.{refused_whole, refused_made, whole_pa
 use Rattle.fvn_match.proofs.SummedFinding.{found_summed}
 use Rattle.fvn_match.proofs.OneMore.{one_more_named, more_weight, more_fit, more_hold, found_more}
 use Rattle.fvn_match.proofs.WholeSteps.{not_zero}
-use Rattle.fvn_match.proofs.Weights.{weight_args, weight_of-reverse, weight_of-group}
+use Rattle.fvn_match.proofs.Weights.{weight_args, weight_of-same, weight_of-group}
 use Rattle.fvn_match.proofs.search.Search.+search.Goals as goal
 
 -- goals and sums, from the first on
@@ -391,17 +393,15 @@ summed-solve-requires t c =
     let d = c.args.self.now.sig.now in
     let one : SumGoal = record { op = c.args.f; patterns = c.as_slice.result; pieces = c.as_slice-2.result; left = c.as_slice-3.result; seen = 0 } in
     let more = one_more_named one c.args.sums.now c.in_ok-more.more.items c.as_slice-4.result.now c.in_ok-more.ensures c.as_slice-4.ensures.value in
-    let patterns_are = ap references c.as_slice.ensures.value ∙ c.in_ok-patterns.ensures in
+    let same = renamed_same c.in_ok-patterns.patterns.items c.as_slice.result.now c.args-2.result.now (args_of c.args.p.now) c.as_slice.ensures.value c.args-2.ensures.exact c.in_ok-patterns.ensures in
     let small = ap std_sum c.as_slice-3.ensures.value ∙ c.in_ok-counted.ensures.together in
     let w = weight_args c.args.p.now c.args.f c.requires.head in
-    let v = ap weight_of patterns_are in
-    let x = weight_of-reverse c.args-2.result.now in
-    let y = ap weight_of c.args-2.ensures.exact in
+    let v = weight_of-same (references c.as_slice.result.now) (args_of c.args.p.now) same in
     let z = more_weight one c.args.sums.now c.as_slice-4.result.now more in
     let fits =
     started_fits d c.recall_good.ensures.fits c.args.f c.requires.associative c.args.p.now c.args.t.now c.requires.pair c.requires.head
-    c.as_slice.result (patterns_are ∙ ap reverse c.args-2.ensures.exact) c.in_ok-counted.counted (subst (λ l. IsCounted l c.in_ok-counted.counted) c.summands.ensures c.in_ok-counted.ensures) c.as_slice-2.result c.as_slice-2.ensures.value c.as_slice-3.result c.as_slice-3.ensures.value (omega (arith, small)) 0 in (
-      omega (arith, w, v, x, y, z),
+    c.as_slice.result same c.in_ok-counted.counted (subst (λ l. IsCounted l c.in_ok-counted.counted) c.summands.ensures c.in_ok-counted.ensures) c.as_slice-2.result c.as_slice-2.ensures.value c.as_slice-3.result c.as_slice-3.ensures.value (omega (arith, small)) 0 in (
+      omega (arith, w, v, z),
       (c.requires.vars, record { pairs = c.requires.state.pairs; sums = more_fit d one c.args.sums.now c.as_slice-4.result.now more fits c.requires.state.sums; values = c.requires.state.values }),
     )
 
@@ -411,7 +411,7 @@ summed-returns t c =
     let one : SumGoal = record { op = c.args.f; patterns = c.as_slice.result; pieces = c.as_slice-2.result; left = c.as_slice-3.result; seen = 0 } in
     let more = one_more_named one c.args.sums.now c.in_ok-more.more.items c.as_slice-4.result.now c.in_ok-more.ensures c.as_slice-4.ensures.value in
     found_summed d c.recall_good.ensures.fits c.args.f c.requires.associative c.args.p.now c.args.t.now c.requires.pair c.requires.head
-    one refl (ap references c.as_slice.ensures.value ∙ c.in_ok-patterns.ensures ∙ ap reverse c.args-2.ensures.exact)
+    one refl (renamed_same c.in_ok-patterns.patterns.items c.as_slice.result.now c.args-2.result.now (args_of c.args.p.now) c.as_slice.ensures.value c.args-2.ensures.exact c.in_ok-patterns.ensures)
     c.in_ok-counted.counted (subst (λ l. IsCounted l c.in_ok-counted.counted) c.summands.ensures c.in_ok-counted.ensures) c.as_slice-2.ensures.value c.as_slice-3.ensures.value
     (bindings_of c.args.bound.now) c.args.self.now.vars.now c.args.rest.now c.as_slice-4.result.now c.args.sums.now c.solve.result c.solve.ensures (more_hold d one c.args.sums.now c.as_slice-4.result.now more)
 
