@@ -125,6 +125,47 @@ def sums_below_sums(count, rest):
     return f"{left} =? {right}"
 
 
+def constants(first, last):
+    return [f"c{i}" for i in range(first, last + 1)]
+
+
+def beside(name, others, op="_+_"):
+    """A variable beside such terms."""
+    return over(op, [f"{name}:Sum"] + others)
+
+
+def other_constants(count, op):
+    """A variable beside so many constants against another one beside as many others."""
+    return f"{beside('X', constants(1, count), op)} =? {beside('Y', constants(count + 1, 2 * count), op)}"
+
+
+def half_of_them(count):
+    """A variable beside constants against another one beside half of them."""
+    return f"{beside('X', constants(1, 2 * count))} =? {beside('Y', constants(1, count))}"
+
+
+def terms_of_two_operators(count):
+    """A variable beside so many terms of an operator against another one beside as many of another operator."""
+    left, right = [f"g(c{i})" for i in range(1, count + 1)], [f"p(Z{i}:Sum, c1)" for i in range(1, count + 1)]
+    return f"{beside('X', left)} =? {beside('Y', right)}"
+
+
+def towers_of_three(depth, x="X", v="V"):
+    """Sums by three operators in one another, so deep: each level has a variable of the one below, and a variable twice."""
+    term = f"{x}:S"
+    for i in range(depth):
+        term = f"_+_(_*_(_&_({term}, {v}{i}:S), {v}{i + 1}:S), {v}{i}:S)"
+    return term
+
+
+def sums_with_the_next(depth, x="X", v="V"):
+    """Sums by two operators in one another, so deep: the variable beside a level stands in the next one too."""
+    term = f"{x}:S"
+    for i in range(depth):
+        term = f"_&_(_*_({term}, {v}{i}:S), {v}{i + 1}:S)"
+    return term
+
+
 FAMILIES = [
     ("2 against n", "sums", {n: sums(2, n) for n in range(2, 8)}),
     ("3 against n", "sums", {n: sums(3, n) for n in (2, 3)}),
@@ -183,6 +224,15 @@ FAMILIES = [
     }),
     ("element and bag", "soup", {n: against_constants(["E:Elt", "X:Bag"], n) for n in (4, 8, 12, 13, 16, 25)}),
     ("two bags", "soup", {n: against_constants(["X:Bag", "Y:Bag"], n) for n in (8, 12)}),
+    ("other constants", "constants", {n: other_constants(n, "_+_") for n in (4, 6, 9, 12)}),
+    ("other constants, with an identity", "constants", {n: other_constants(n, "_&_") for n in (4, 6, 9, 12)}),
+    ("half of the constants", "constants", {n: half_of_them(n) for n in (8, 16)}),
+    ("terms of two operators", "constants", {n: terms_of_two_operators(n) for n in (3, 5, 8)}),
+    ("twice and three times", "constants", {n: f"{beside('X', ['X:Sum'] + constants(1, n))} =? {over('_+_', ['Y:Sum'] * 3)}" for n in (3, 5, 8)}),
+    ("element beside a sum", "constants", {n: f"{beside('X', ['E:Elt'])} =? {over('_+_', constants(1, n))}" for n in (8, 12, 24)}),
+    ("element beside a sum, two rests", "constants", {n: f"{beside('X', ['E:Elt'])} =? {beside('Y', constants(1, n))}" for n in (8, 16)}),
+    ("towers of three sums", "identities", {n: f"{towers_of_three(n)} =? {towers_of_three(n, 'U', 'A')}" for n in (1, 2)}),
+    ("sums with the next one's variable", "identities", {n: f"{sums_with_the_next(n)} =? {sums_with_the_next(n, 'U', 'A')}" for n in (1, 2)}),
     ("two elements and bag", "soup", {n: against_constants(["E:Elt", "F:Elt", "X:Bag"], n) for n in (4, 8)}),
     ("free pairs", "plain", {n: f"{over('p', variables('X', n) + ['a'])} =? {over('p', variables('Y', n) + ['a'])}" for n in (25, 50, 99)}),
     ("free terms that double", "plain", {n: doubled(n) for n in (3, 5, 7)}),

@@ -25,6 +25,10 @@ X =? s(X) => 1 complete 0
 X =? => 4 problem 2
 _;_(A,X) =? _;_(c1,c2,c3,c4,c5,c6,c7,c8,c9,c10,c11,c12,c13,c14,c15,a) => 0 {A:E --> a, X:S --> _;_(c1,c10,c11,c12,c13,c14,c15,c2,c3,c4,c5,c6,c7,c8,c9)} | complete 1
 _;_(A,X) =? _;_(c1,c2,c3,c4,c5,c6,c7,c8,c9,c10,c11,c12,c13,c14,c15,c16,c17,c18,c19,c20,c21,c22,c23,c24,a) => 0 {A:E --> a, X:S --> _;_(c1,c10,c11,c12,c13,c14,c15,c16,c17,c18,c19,c2,c20,c21,c22,c23,c24,c3,c4,c5,c6,c7,c8,c9)} | complete 1
+_+_(X,c1,c2,c3,c4,c5,c6) =? _+_(Y,c7,c8,c9,c10) => 0 {X:S --> _+_(#1:S,c10,c7,c8,c9), Y:S --> _+_(#1:S,c1,c2,c3,c4,c5,c6)} | {X:S --> _+_(c10,c7,c8,c9), Y:S --> _+_(c1,c2,c3,c4,c5,c6)} | complete 2
+_;_(X,c1,c2,c3,c4,c5,c6) =? _;_(Y,c7,c8,c9,c10) => 0 {X:S --> _;_(#1:S,c10,c7,c8,c9), Y:S --> _;_(#1:S,c1,c2,c3,c4,c5,c6)} | complete 1
+_+_(X,X,c1,c2,c3,c4,c5) =? _+_(Y,Y,Y) => 0 {X:S --> _+_(#1:S,#1:S,#1:S,c1,c2,c3,c4,c5), Y:S --> _+_(#1:S,#1:S,c1,c2,c3,c4,c5)} | {X:S --> _+_(c1,c2,c3,c4,c5), Y:S --> _+_(c1,c2,c3,c4,c5)} | complete 2
+_+_(X,c1,c2,c3,c4,c5,c6,c7,c8,c9,c10,c11,c12,c13,c14,c15,c16,c17,c18,c19,c20,c21,c22,c23,c24) =? _+_(Y,c1,c2,c3,c4,c5,c6,c7,c8,c9,c10,c11,c12) => 0 {X:S --> #1:S, Y:S --> _+_(#1:S,c13,c14,c15,c16,c17,c18,c19,c20,c21,c22,c23,c24)} | complete 1
 _+_(X,X,Y,Y,Z) =? _+_(A,B,C:S,D:S,E:S,F:S) => 5 bound basis _+_";
 
 // The number of a status.

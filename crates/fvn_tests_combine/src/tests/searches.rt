@@ -43,8 +43,8 @@ search A0 = A0 h A1 l => few | 1 1
 search A0 = A1 f n; A1 = A0 f k => few | 1 0
 search A0 = A1 o h l; A1 = A0 f m => few | 1 0
 search A0 = A1 o h l; A1 = A2 f m; A2 = A0 f l => few | 1 0
-search A0 A1 l A2 m = A0 A2 l A1 m => few | 24 10
-search A0 A1 l A2 m A0 l = A2 A1 l A0 m A1 l => few | 19 6
+search A0 A1 l A2 m = A0 A2 l A1 m => few | 19 8
+search A0 A1 l A2 m A0 l = A2 A1 l A0 m A1 l => few | 30 7
 search A0 A1 k h A2 l = f h h A3 l => few | 2 1
 search A0 A1 k = A2 f k; A0 A3 l = A4 f l => few | 3 11
 search A0 A1 l A2 m A3 l = f => few | 7 4";
@@ -81,15 +81,15 @@ search A0 A0 h A1 i = A2 A3 i => few | 1 2
 search A0 A0 h A1 A1 h A2 i i = A3 A4 i => few | 1 4
 search A0 A0 h A1 A1 h A2 A2 h A3 i i i = A4 A5 i => few | 1 8
 search A0 A0 h A1 A1 h A2 A2 h A3 A3 h A4 i i i i = A5 A6 i => few | 1 16
-search A0 A0 h = A1 A1 i => few | 3 0
+search A0 A0 h = A1 A1 i => few | 1 0
 search A0 A1 h A2 i = A3 A4 i => few | 1 8
 search A0 A1 h = A0 A2 i => few | 5 3
 search A0 A1 h A0 i = A1 => few | 7 3
 search A0 A1 h A0 i = A2 A3 i => few | 3 23
-search A0 A1 h A2 i = A0 A2 h A1 i => few | 8 26
-search A0 A1 h A2 A3 h i A0 i = A0 A2 h A1 A3 h i A1 i => few | 119 142
-search A0 A1 i A2 h A3 i = A2 A3 i A0 h A1 i => few | 53 119
-search A0 A1 A2 i h A1 A0 A3 i h i = A2 A3 i => few | 71 100";
+search A0 A1 h A2 i = A0 A2 h A1 i => few | 10 27
+search A0 A1 h A2 A3 h i A0 i = A0 A2 h A1 A3 h i A1 i => few | 124 142
+search A0 A1 i A2 h A3 i = A2 A3 i A0 h A1 i => few | 93 132
+search A0 A1 A2 i h A1 A0 A3 i h i = A2 A3 i => few | 89 100";
 
 #[test]
 fn searches_stay_short(rt: HostRuntime) -> Result<(), NoMemory> {
@@ -121,21 +121,26 @@ const SEARCHED_OF_SUMS: &str =
 // sum of two variables by i, which they lack, with two and three levels, by k, and against the like; those of i over h against
 // one by h, and beside a variable against a sum with a term; those of h over i against a term. A class with members of two
 // operators is one of its parts, and that is asked at once; one with a member of an operator is taken as a sum by it, so that it
-// is asked of no two of them whether they are the same constant. All numbers of unifiers are Maude's.
+// is asked of no two of them whether they are the same constant. The last two of each kind have variables that stand twice: a
+// tower of all three against the like, and one of h over i. All numbers of unifiers are Maude's.
 const TOWERS: &str = "general A0 A1 h j A2 h k A3 h j A4 h k = A5 A6 i => few | 3 2
 general A0 A1 h j A2 h k A3 h j A4 h k A5 h j A6 h k = A7 A8 i => few | 3 2
 general A0 A1 h j A2 h k A3 h j A4 h k = A5 A6 k => few | 3 48
 general A0 A1 h j A2 h k A3 h j A4 h k = A5 A6 h j A7 h k A8 h j A9 h k => few | 61 145
-general A0 A1 h j A2 h i A3 h j A4 h i = A5 A6 h => few | 13 2
-general A0 A1 h j A2 h i A3 h j A4 h i A5 i = A6 j l i => few | 9 16
+general A0 A1 h j A2 h i A3 h j A4 h i = A5 A6 h => few | 23 12
+general A0 A1 h j A2 h i A3 h j A4 h i A5 i = A6 j l i => few | 15 18
 general A0 A1 i j A2 i h A3 i j A4 i h A5 i j A6 i h = A7 l => few | 1 0
+general A0 A1 h A2 i A1 k A2 h A3 i A2 k = A4 A5 h A6 i A5 k A6 h A7 i A6 k => few | 559 2304
+general A0 A1 i A2 h A2 i A3 h = A4 A5 i A6 h A6 i A7 h => few | 240 1753
 100 200 A0 A1 h j A2 h k A3 h j A4 h k = A5 A6 i => complete 2 | A0 A1 m A2 m A3 m A4 m A5 m A6 m = A0 A1 m A2 m A3 m A4 m j A4 h A3 j A2 h A0 A1 h k h k m g m; A0 A1 m A2 m A3 m A4 m A5 m A6 m = A0 A1 m A2 m A3 m A4 m g m j A4 h A3 j A2 h A0 A1 h k h k m
 100 200 A0 A1 h j A2 h k A3 h j A4 h k A5 h j A6 h k = A7 A8 i => complete 2
 100 200 A0 A1 h j A2 h k A3 h j A4 h k = A5 A6 k => complete 14
 100 200 A0 A1 h j A2 h k A3 h j A4 h k = A5 A6 h j A7 h k A8 h j A9 h k => complete 44
 100 200 A0 A1 h j A2 h i A3 h j A4 h i = A5 A6 h => complete 2
 100 200 A0 A1 h j A2 h i A3 h j A4 h i A5 i = A6 j l i => complete 3 | A0 A1 m A2 m A3 m A4 m A5 m A6 m = A0 A1 m A2 m A3 m A4 m A5 j l i m A5 j A4 h i A3 j A2 h A0 A1 h i h i m; A0 A1 m A2 m A3 m A4 m A5 m A6 m = A0 j l i f m A1 m f m A2 m A3 m A3 A0 i j A2 h i j A1 h i m; A0 A1 m A2 m A3 m A4 m A5 m A6 m = f A0 j l i m A1 m f m A2 m A3 m A3 A0 i j A2 h i j A1 h i m
-100 200 A0 A1 i j A2 i h A3 i j A4 i h A5 i j A6 i h = A7 l => complete 0";
+100 200 A0 A1 i j A2 i h A3 i j A4 i h A5 i j A6 i h = A7 l => complete 0
+100 200 A0 A1 h A2 i A1 k A2 h A3 i A2 k = A4 A5 h A6 i A5 k A6 h A7 i A6 k => complete 6
+100 200 A0 A1 i A2 h A2 i A3 h = A4 A5 i A6 h A6 i A7 h => complete 39";
 
 #[test]
 fn possible_heads_are_seen(rt: HostRuntime) -> Result<(), NoMemory> {
@@ -180,4 +185,34 @@ const SOLVED_OF_ELEMENTS: &str = "general B0 B1 t = A2 => few | 1 2
 fn what_is_solved_as_it_stands_stays_short(rt: HostRuntime) -> Result<(), NoMemory> {
     assert_rows(&rt, rt.alloc(), SUMS, SOLVED_AS_THEY_STAND)?;
     assert_rows(&rt, rt.alloc(), BAGS, SOLVED_OF_ELEMENTS)
+}
+
+// Elements B below A, of which f to q are constants; a sum r with no identity, a sum s with the identity t, and free operators
+// u and v.
+const CONSTANTS: &str =
+    "A B; B < A; f : -> B; g : -> B; h : -> B; i : -> B; j : -> B; k : -> B; l : -> B; m : -> B; n : -> B; o : -> B; p : -> B; q : -> B; r : A A -> A [assoc comm]; s : A A -> A [assoc comm id: t]; t : -> A; u : A -> A; v : A A -> A";
+
+// A variable beside constants against another one beside others, with no identity and with one: there are many minimal
+// solutions of two constants, which are never taken. An element beside a variable against twelve elements, and against these
+// beside a variable; a variable that stands twice beside constants against one that stands three times; constants of which the
+// other side has half; and terms of two operators in place of constants. All numbers of unifiers are Maude's.
+const SEARCHED_OF_CONSTANTS: &str =
+    "general A0 f r g r h r i r j r k r = A1 l r m r n r o r => few | 1 2
+general A0 f s g s h s i s j s k s = A1 l s m s n s o s => few | 1 2
+general A0 B1 r = f g r h r i r j r k r l r m r n r o r p r q r => few | 23 12
+general A0 B1 r = A2 f r g r h r i r j r k r l r m r n r o r p r q r => few | 1 14
+general A0 A0 r f r g r h r i r j r = A1 A1 r A1 r => few | 1 2
+general A0 f r g r h r i r j r k r l r m r n r o r p r q r = A1 f r g r h r i r j r k r => few | 1 1
+general A0 f u r g u r h u r i u r j u r = A9 A1 f v r A2 f v r A3 f v r A4 f v r A5 f v r => few | 1 2
+100 200 A0 f r g r h r i r j r k r = A1 l r m r n r o r => complete 2 | A0 A1 v = l m r n r o r A2 r f g r h r i r j r k r A2 r v; A0 A1 v = l m r n r o r f g r h r i r j r k r v
+100 200 A0 f s g s h s i s j s k s = A1 l s m s n s o s => complete 1 | A0 A1 v = l m s n s o s A2 s f g s h s i s j s k s A2 s v
+100 200 A0 B1 r = f g r h r i r j r k r l r m r n r o r p r q r => complete 12
+100 200 A0 B1 r = A2 f r g r h r i r j r k r l r m r n r o r p r q r => complete 14
+100 200 A0 A0 r f r g r h r i r j r = A1 A1 r A1 r => complete 2 | A0 A1 v = f g r h r i r j r A2 r A2 r A2 r f g r h r i r j r A2 r A2 r v; A0 A1 v = f g r h r i r j r f g r h r i r j r v
+100 200 A0 f r g r h r i r j r k r l r m r n r o r p r q r = A1 f r g r h r i r j r k r => complete 1 | A0 A1 v = A0 A0 l r m r n r o r p r q r v
+100 200 A0 f u r g u r h u r i u r j u r = A9 A1 f v r A2 f v r A3 f v r A4 f v r A5 f v r => complete 2";
+
+#[test]
+fn different_constants_are_no_choice(rt: HostRuntime) -> Result<(), NoMemory> {
+    assert_rows(&rt, rt.alloc(), CONSTANTS, SEARCHED_OF_CONSTANTS)
 }

@@ -43,7 +43,8 @@ const SOLVED: &str = "4 20 A0 A1 k = A2 A3 k => unifiers 4
 4 20 f f i f f i i f f i f f i i i = f f i f f i i f f i f f i i i => problem 0
 4 20 A0 A1 k A2 k A3 k A4 k = A5 A6 k A7 k A8 k A9 k => basis 0
 4 20 A0 A1 l A2 l A3 l A4 l = A5 A6 l A7 l A8 l A9 l => complete 1
-4 30 A0 A1 l A2 l A3 l A4 l Ab l = A5 A6 l A7 l A8 l A9 l Ac l => basis 0
+4 30 A0 A1 l A2 l A3 l A4 l Ab l = A5 A6 l A7 l A8 l A9 l Ac l => complete 1
+4 60 A0 A1 l A2 l A3 l A4 l A5 l A6 l A7 l A8 l A9 l Ab l Ac l Ad l Ae l Af l Ag l = Ah Ai l Aj l Ak l Al l Am l An l Ao l => basis 0
 4 200 A0 = A1 A2 k h A3 k h A4 k h A5 k h A6 k h A7 k h A8 k h A9 k h Ab k h Ac k h Ad k h Ae k h Af k h Ag k h => complete 1
 4 200 A0 = A1 A2 l h A3 l h A4 l h A5 l h A6 l h A7 l h A8 l h A9 l h Ab l h Ac l h Ad l h Ae l h Af l h Ag l h => complete 1
 4 200 A0 = A1 f k h f k h f k h f k h f k h f k h f k h f k h f k h f k h f k h f k h f k h f k h f k h f k h f k h f k h f k h f k h f k h f k h f k h f k h f k h f k h f k h f k h f k h f k h => complete 1
