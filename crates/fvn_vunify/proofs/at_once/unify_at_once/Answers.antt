@@ -22,6 +22,8 @@ test_kept-requires-clause-sorts g c = λ κs w.
 pub returns-in-Irreducible : goal.returns-in-Irreducible
 returns-in-Irreducible g c =
     let s = g.E.Expander.setting c.args.expander.now in
-    solved_at_once s (c.rewriting_is_lawful.ensures s.declarations s.equations) (c.theory_equality_is_lawful.ensures s.declarations s.equations) c.args.terms.now
-    (c.in_ok-alike.ensures c.if-not-alike.false) c.in_ok-v.v c.in_ok-v.ensures c.in_ok-names.names _ c.in_ok-names.ensures _ c.as_slice.ensures
-    (rw c.in-Irreducible.is at c.in_ok-test_kept.ensures) c.in_ok-solved-in-Irreducible.solved c.in_ok-solved-in-Irreducible.ensures
+    record {
+      solved = solved_at_once s (c.rewriting_is_lawful.ensures s.declarations s.equations) (c.theory_equality_is_lawful.ensures s.declarations s.equations) c.args.terms.now
+          (c.in_ok-alike.ensures c.if-not-alike.false) c.in_ok-v.v c.in_ok-v.ensures c.in_ok-names.names _ c.in_ok-names.ensures _ c.as_slice.ensures
+          (rw c.in-Irreducible.is at c.in_ok-test_kept.ensures) c.in_ok-solved-in-Irreducible.solved c.in_ok-solved-in-Irreducible.ensures;
+    }
