@@ -32,7 +32,7 @@ use Rattle.fvn_vunify.specs.AtOnce.{HaveOneForm, IsSolvedAtOnce, IsSolvedAtOnceF
 use Rattle.fvn_vunify.specs.inner.Names.{AreFreshNames}
 use Rattle.fvn_vunify.specs.inner.Tests.{ArePassed, AllStay, AreTestsOfAll}
 use Rattle.fvn_vunify.specs.inner.Attempts.{candidate_of}
-use Rattle.fvn_vunify.specs.inner.OneForms.{IsFormIn, HaveOneFormEach, IsAlone, variables_of_forms}
+use Rattle.fvn_vunify.specs.inner.OneForms.{HaveOneFormEach, IsAlone, variables_of_forms}
 use Rattle.fvn_vunify.specs.declared.testing.Test.TheVariants.{Irreducible}
 use Rattle.fvn_vunify.proofs.Apart.{next_two}
 use Rattle.fvn_vunify.proofs.IrreducibleValues.{variables_sorted}

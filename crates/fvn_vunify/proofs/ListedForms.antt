@@ -2,14 +2,14 @@
 use Rattle.std.proofs.Common.{◌≡◌, ◌⊎◌, Bool, true, false, List, [], ◌∷◌, ◌++◌, map, sym, subst, inl, inr}
 use Rattle.std.specs.Prelude.{if◌then◌else◌, All, Contains}
 use Rattle.std.proofs.lemmas.List.Elements.{All-weaker, All-contains_itself, Contains-push_cases}
-use Rattle.fvn_base.proofs.Membership.{contains_here, contains_later, contains_cases, contains_none, map_contains}
+use Rattle.fvn_base.proofs.Membership.{contains_none, map_contains}
 use Rattle.fvn_terms.specs.declared.plain.Var.{Var}
 use Rattle.fvn_terms.specs.declared.declarations.Declarations.{Declarations}
 use Rattle.fvn_terms.specs.Substitution.{Occurs, OccursAmong}
 use Rattle.fvn_terms.specs.Signature.{IsSort}
 use Rattle.fvn_terms.specs.Variants.{OccursInSome}
 use Rattle.fvn_forms.specs.Flat.{FlatTerm, FlatTerms, fvar, fapp, fnone, fmore, fpack, plain, plain_all}
-use Rattle.fvn_flat.specs.Fits.{Fits, AllFit}
+use Rattle.fvn_flat.specs.Fits.{AllFit}
 use Rattle.fvn_flat.specs.Variables.{listed, with_variable, with_variables, with_all_variables}
 use Rattle.fvn_flat.proofs.Occurrences.{occurs_in_app}
 use Rattle.fvn_rewrite_laws.proofs.Choosing.{occurring_sort}
