@@ -43,8 +43,8 @@ fn solved_by<R: Threads + Sync, G: Gate, A: AxiomSolver>(
     let narrower = Narrower::new(search.alloc, signature, search.rules, solver, bounds);
     explorations_are_lawful(&narrower);
     let sides = sides_of(search.alloc, given)?;
-    if let Some(r) = unify_at_once(search.alloc, signature, &narrower, sides.as_slice())? {
-        return Ok(r);
+    if let Some(solved) = unify_at_once(search.alloc, signature, &narrower, sides.as_slice())? {
+        return Ok(solved);
     }
     let x = explore(
         rt,

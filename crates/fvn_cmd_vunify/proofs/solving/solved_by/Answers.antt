@@ -27,7 +27,7 @@ returns-in-Some g c =
     at_once_in m reach c.args.given.pairs (g.A.AxiomSolver.drawn c.args.solver.now) _
     (setting_is m reach _ c.signature-signature.ensures c.args.search.now.rules.now c.requires.search.equations _ c.new-narrower.ensures.rewrites _
     (subst (λ z. g.A.AxiomSolver.most_unifiers z ≡ UNIFIERS) (sym c.new-narrower.ensures.solver) c.requires.solver.unifiers_are))
-    _ (c.as_slice.ensures.value ∙ c.in_ok-sides.ensures.exact) c.in-Some.r (rw c.in-Some.is at c.in_ok-unify_at_once.ensures.solved)
+    _ (c.as_slice.ensures.value ∙ c.in_ok-sides.ensures.exact) c.in-Some.solved (rw c.in-Some.is at c.in_ok-solved.ensures.solved)
 
 pub explore-requires-clause-setting : goal.explore-requires-clause-setting
 explore-requires-clause-setting g c κs within = record { declarations = ap (λ (r : Rewriting). r.signature) c.new-narrower.ensures.rewrites }
