@@ -112,9 +112,9 @@ theory_exact m p reach s u a =
     }
 
 -- where no bound is met, the search came to its end
-module _ (m : Contents) (p : Problem) (reach : Reach) (found : modulo.Found) (solution : modulo.IsSolution m p reach found) (stays : modulo.StaysWithinBounds m p reach found) where
+module _ (m : Contents) (p : Problem) (reach : Reach) (found : modulo.Found) (own : modulo.IsOfExploration m p reach found) (stays : modulo.StaysWithinBounds m p reach found) where
   explored_whole : found.explored.end ≡ Complete
-  explored_whole = stays.explored found.explored.end solution.explored.cause
+  explored_whole = stays.explored found.explored.end own.explored.cause
 
   no_stop : StopsAtPairs (setting_of m reach) (IsDrawn m.signature) found.explored found.solved.end → (found.solved.end ≡ Complete → ⊥) → ⊥
   no_stop stop not_complete =
@@ -123,10 +123,11 @@ module _ (m : Contents) (p : Problem) (reach : Reach) (found : modulo.Found) (so
       (record { end = stop.stop; not_whole = λ e. not_complete (stop.is ∙ ap explore_end e); cause = a.4 })
 
 whole_within : (m : Contents) (p : Problem) (reach : Reach) (found : modulo.Found) → modulo.IsSolution m p reach found → modulo.StaysWithinBounds m p reach found → modulo.IsSolvedWhole found
-whole_within m p reach found solution stays = elim (complete_or_not found.solved.end) [
-  | inl e ↦ e
-  | inr n ↦ absurd (no_stop m p reach found solution stays (solution.solved.cause (explored_whole m p reach found solution stays) n) n)
-]
+whole_within m p reach found solution stays = go solution.source (complete_or_not found.solved.end) where
+  go : modulo.IsOfExploration m p reach found ⊎ modulo.IsOfEqualSides m p reach found → (found.solved.end ≡ Complete) ⊎ (found.solved.end ≡ Complete → ⊥) → modulo.IsSolvedWhole found
+  go (inr own) d = own.solved.end
+  go (inl own) (inl e) = e
+  go (inl own) (inr n) = absurd (no_stop m p reach found own stays (own.solved.cause (explored_whole m p reach found own stays) n) n)
 
 pub explored_exact : ExploredAnswersAreExact
 explored_exact = record { variants = variants_exact; unifiers = theory_exact; within = whole_within }

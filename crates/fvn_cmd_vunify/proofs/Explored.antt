@@ -1,5 +1,5 @@
 -- What is solved in an exploration of the sides of pairs in a module.
-use Rattle.std.proofs.Common.{◌≡◌, ℕ, List, sym, subst}
+use Rattle.std.proofs.Common.{◌≡◌, ℕ, List, sym, subst, inl, inr}
 use Rattle.fvn_terms.specs.Substitution.{Substitution}
 use Rattle.fvn_terms.specs.Unifiers.{Problem}
 use Rattle.fvn_flat.specs.Drawn.{IsDrawn}
@@ -15,6 +15,7 @@ use Rattle.fvn_closure.specs.Laws.{ExplorationsAreLawful}
 use Rattle.fvn_vunify.specs.declared.solved.SolvedModulo.{SolvedModulo}
 use Rattle.fvn_vunify.specs.Sides.{sides_in_turn}
 use Rattle.fvn_vunify.specs.Solved.{IsOfSomePairs, IsSolvedFor}
+use Rattle.fvn_vunify.specs.AtOnce.{IsSolvedAtOnce, IsSolvedAtOnceFor}
 use Rattle.fvn_cmd_words.specs.declared.reach.Reach.{Reach}
 use Rattle.fvn_cmd_exploring.specs.Searches.{setting_of, limits_of}
 use Rattle.fvn_cmd_exploring.proofs.Settings.{explored_in}
@@ -36,12 +37,17 @@ module _ (m : Contents) (reach : Reach) (pairs : FlatPairs) (sides : AreSides m.
   solved_in workers start is limits limits_are e laws r solved =
       let own = subst (λ l. IsExploration (setting_of m reach) drawn l (limits_of m reach 1) x) is (explored_in m reach drawn start x workers g setting limits limits_are e) in
       let there : IsSolvedFor (setting_of m reach) drawn x r = subst (λ y. IsSolvedFor y drawn x r) setting solved in
-      record {
+      inl (record {
         explored = x;
         exploration = own;
         laws = subst (λ y. ExplorationsAreLawful y drawn) setting laws;
         solved = there pairs (limits_of m reach 1) (record { kinds = sides.kinds; exploration = own });
-      }
+      })
+
+-- pairs that are solved at once in the setting of what narrows are so in that of the module
+pub at_once_in : (m : Contents) (reach : Reach) (pairs : FlatPairs) (drawn : Problem → Substitution → Type 0) (g : Setting) → g ≡ setting_of m reach → (start : List FlatTerm) → start ≡ sides_in_turn pairs → (r : SolvedModulo) →
+    IsSolvedAtOnceFor g start r → IsSolvedBy m reach drawn pairs r
+at_once_in m reach pairs drawn g setting start is r h = inr (subst (λ y. IsSolvedAtOnce y pairs r) setting (h pairs is))
 
 -- what is solved with a solver is so with the same one by another name
 pub solved_along : {S : Type 0} (draws : S → Problem → Substitution → Type 0) (a b : S) → a ≡ b → (m : Contents) (reach : Reach) (pairs : FlatPairs) (r : SolvedModulo) →

@@ -35,7 +35,6 @@ use Rattle.fvn_closure.specs.Laws.{ExplorationsAreLawful}
 use Rattle.fvn_vunify.specs.declared.solved.SolvedModulo.{SolvedModulo}
 use Rattle.fvn_vunify.specs.Solutions.{IsKeptUnifier, IsIrreducibleUnifier as IsIrreducibleFor, IsInstanceOfSome, AreAllIrreducibleUnifiers}
 use Rattle.fvn_vunify.specs.Sides.{sides_in_turn}
-use Rattle.fvn_vunify.specs.Solved.{IsSolvedModulo}
 use Rattle.fvn_vunify.specs.Laws.{TheoryUnifiersHaveIrreducibleValues, CompleteIrreducibleUnifiersAreShortest, FlattenedPairsHaveOneTheoryAnswer, HaveOneTheoryAnswer}
 use Rattle.fvn_cmd.specs.Headline.{IsHeadline}
 use Rattle.fvn_cmd_unify.specs.Asked.{pairs_of, IsInstanceOf}
@@ -45,6 +44,7 @@ use Rattle.fvn_cmd_words.specs.declared.reach.Reach.{Reach}
 use Rattle.fvn_cmd_exploring.specs.Searches.{AreTrusted, setting_of, limits_of, AreExplored}
 use Rattle.fvn_cmd_vunify.specs.Asked.{sides_of, flattened_pairs, UnifiesInTheory, IsIrreducibleUnifier, IsTheoryInstanceOf, IsVariantOfSides, HasFewLevels, theory_unifiers_of}
 use Rattle.fvn_cmd_vunify.specs.Solutions.{Found, values, IsWhole}
+use Rattle.fvn_cmd_vunify.proofs.Answering.{AreAnswers}
 use Rattle.fvn_cmd_vunify.proofs.InTurn.{sides_flat, each_back, each_occurs, sides_occur, occur_sides, variant_along, within_along}
 
 -- the laws of unifiers in a theory
@@ -82,7 +82,7 @@ module _ (m : Contents) (p : Problem) (reach : Reach) (kinded : All (AreOfOneKin
   to_flat_instance : (a b : Substitution) → IsInstanceOf m p a b → IsInstance m.signature (variables_of flat) a b
   to_flat_instance a b h = (one.instances a b).0 (instance-on_pairs m.signature p vars a b h)
 
-  module _ (completed : IsCompleted m.signature) (admissible : AreAdmissible m.signature (equations_of m.equations)) (x : Explored) (r : SolvedModulo) (s : IsSolvedModulo g (IsDrawn m.signature) (flattened_pairs m p) (limits_of m reach 1) x r) where
+  module _ (completed : IsCompleted m.signature) (admissible : AreAdmissible m.signature (equations_of m.equations)) (r : SolvedModulo) (s : AreAnswers m reach (flattened_pairs m p) r) where
     abbrev list : List Substitution
     list = map substitution r.unifiers
 

@@ -3,6 +3,7 @@ mod InTurn
 mod Headline
 mod Explored
 pub mod Ended
+mod Answering
 mod Replied
 mod Denoted
 mod Shown

@@ -1,5 +1,5 @@
 -- How the steps of `vunify` make its reply.
-use Rattle.std.proofs.Common.{◌≡◌, ◌≤◌, ℕ, List, [], ◌∷◌, map, length, refl, sym, ap, ◌∙◌, subst, inl, inr, arith}
+use Rattle.std.proofs.Common.{◌≡◌, ◌≤◌, ◌⊎◌, ℕ, Option, List, [], ◌∷◌, map, length, refl, sym, ap, ◌∙◌, subst, inl, inr, arith}
 use Rattle.std.specs.Prelude.{All}
 use Rattle.std.specs.List.{AllZip}
 use Rattle.std.proofs.lemmas.List.{length-map}
@@ -8,11 +8,13 @@ use Rattle.std.proofs.lemmas.Slice.Zip.{AllZip-long}
 use Rattle.fvn_terms.specs.declared.plain.Plain.{Plain}
 use Rattle.fvn_terms.specs.declared.declarations.Declarations.{Declarations}
 use Rattle.fvn_terms.specs.CompleteSets.{IsApart}
-use Rattle.fvn_terms.specs.Laws.{RewritingIsLawful}
+use Rattle.fvn_terms.specs.Rewriting.{IsConfluent}
+use Rattle.fvn_terms.specs.Laws.{RewritingLaws, RewritingIsLawful}
 use Rattle.fvn_theory.specs.Equations.{equations_of}
 use Rattle.fvn_forms.specs.Good.{IsGood}
 use Rattle.fvn_signature.specs.Queries.{IsCompleted}
 use Rattle.fvn_flat.specs.Bindings.{Bindings, BindingsFit}
+use Rattle.fvn_flat.specs.Fits.{AllFit}
 use Rattle.fvn_flat.specs.Laws.{FlattenedPairsAreGiven}
 use Rattle.fvn_flat.specs.Problems.{plain_pairs, flat_pairs}
 use Rattle.fvn_flat.specs.Solving.{FlatPairs, IsGiven, substitution}
@@ -28,6 +30,10 @@ use Rattle.fvn_problems.specs.Laws.{ProblemNamesAreWords, ProblemNamesDiffer}
 use Rattle.fvn_problems.specs.Scopes.{guarded}
 use Rattle.fvn_problems.specs.Spelling.{RawPair, pairs_in}
 use Rattle.fvn_module.specs.Contents.{Contents}
+use Rattle.fvn_cover.specs.declared.variant.Variant.{Variant}
+use Rattle.fvn_exploring.specs.declared.ends.Explored.{Explored}
+use Rattle.fvn_exploring.specs.declared.ends.ExploreEnd.TheVariants.{Levels}
+use Rattle.fvn_vunify.specs.Sides.{sides_in_turn}
 use Rattle.fvn_vunify.specs.declared.solved.SolvedModulo.{SolvedModulo}
 use Rattle.fvn_vunify.specs.Solutions.{IsIrreducibleUnifier}
 use Rattle.fvn_answer.specs.Asked.{HaveSorts}
@@ -48,12 +54,13 @@ use Rattle.fvn_cmd_words.specs.declared.reach.Reach.{Reach}
 use Rattle.fvn_cmd_exploring.specs.Searches.{setting_of}
 use Rattle.fvn_cmd_exploring.specs.Ends.{end_told}
 use Rattle.fvn_cmd_exploring.specs.Answers.{IsAnswerAfter}
-use Rattle.fvn_cmd_vunify.specs.Asked.{flattened_pairs}
-use Rattle.fvn_cmd_vunify.specs.Solutions.{Found, values, end_of, Shows}
+use Rattle.fvn_cmd_vunify.specs.Asked.{flattened_pairs, HasFewLevels}
+use Rattle.fvn_cmd_vunify.specs.Solutions.{Found, unexplored, values, end_of, IsOfExploration, IsOfEqualSides, Shows}
 use Rattle.fvn_cmd_vunify.specs.Replies.{IsAnswer, IsVunifyAnswer}
 use Rattle.fvn_cmd_vunify.specs.inner.Steps.{AreSides, IsSolvedIn, IsProblemIn, RepliesIn}
 use Rattle.fvn_cmd_vunify.proofs.InTurn.{turn_fits}
 use Rattle.fvn_cmd_vunify.proofs.Headline.{IsLawful, headline, finite}
+use Rattle.fvn_cmd_vunify.proofs.Answering.{answers_of}
 
 -- The pairs that are given.
 
@@ -110,31 +117,46 @@ module _ (m : Contents) (p : Problem) where
     solved_flat = subst (λ l. IsSolvedIn m reach l r) flat s
 
     pub all_fit : All (BindingsFit m.signature) r.unifiers
-    all_fit = s.solved.fits
+    all_fit = (answers_of m reach pairs r s).fits
 
     pub all_sorted : All (HaveSorts m.signature p.vars) r.unifiers
     all_sorted =
         All-weaker (λ (b : Bindings). IsIrreducibleUnifier (setting_of m reach) (plain_pairs pairs) (substitution b)) (HaveSorts m.signature p.vars) (λ b h x c. h.kept.unifier.0.1 x)
-        r.unifiers s.solved.sound
+        r.unifiers (answers_of m reach pairs r s).sound
+
+    -- what was explored, if anything was
+    abbrev explored_of : IsSolvedIn m reach (flattened_pairs m p) r → Explored
+    explored_of (inl h) = h.explored
+    explored_of (inr h) = unexplored
+
+    abbrev found_of : IsSolvedIn m reach (flattened_pairs m p) r → Option ℕ → Found
+    found_of h loss = record { explored = explored_of h; solved = r; loss = loss }
+
+    source_of : (h : IsSolvedIn m reach (flattened_pairs m p) r) (loss : Option ℕ) → IsOfExploration m p reach (found_of h loss) ⊎ IsOfEqualSides m p reach (found_of h loss)
+    source_of (inl h) loss = inl (record { explored = h.exploration; solved = h.solved })
+    source_of (inr h) loss = inr (record { explored = refl; solved = h })
+
+    -- the last level is not met where finitely many variants within as many steps cover all
+    finite_of : IsLawful → IsGood m.signature → RewritingLaws m.signature (equations_of m.equations) → IsCompleted m.signature → AllFit m.signature (sides_in_turn (flattened_pairs m p)) → (h : IsSolvedIn m reach (flattened_pairs m p) r) →
+        IsConfluent m.signature (equations_of m.equations) → HasFewLevels m p reach.levels → (v : Variant) → (explored_of h).end ≡ Levels v → ⊥
+    finite_of lawful good rewriting completed fit (inl h) = finite m p reach is.kinded is.vars lawful good rewriting completed fit h.explored h.exploration h.laws
+    finite_of lawful good rewriting completed fit (inr h) = λ confluent few v e. cc
 
     pub answer-told : RewritingIsLawful → FlattenedPairsAreGiven → IsLawful → EqualLinesAreInstances → IsGood m.signature → IsCompleted m.signature → AreAdmissible m.signature (equations_of m.equations) →
         (unifiers : List Bindings) → unifiers ≡ r.unifiers → (lines : List Text) → AreLinesFor m p unifiers lines → (status : Status) (text : List ℕ) → IsAnswerAfter m reach r.end lines status text → IsAnswer m p reach status text
     answer-told rewriting given_law lawful law good completed admissible unifiers are lines h status text a =
         let here = solved_flat in
         let given : Pairs = record { pairs = flattened_pairs m p } in
-        let f : Found = record { explored = here.explored; solved = r; loss = a.loss } in
-        let promised = headline m p reach is.kinded is.vars lawful good completed admissible here.explored r here.solved f refl a.loss_is in
+        let f : Found = found_of here a.loss in
+        let promised = headline m p reach is.kinded is.vars lawful good completed admissible r (answers_of m reach (flattened_pairs m p) r here) f refl a.loss_is in
         let listed : AreLinesFor m p r.unifiers lines = subst (λ l. AreLinesFor m p l lines) are h in
         let end_is : end_told reach r.end a.loss (length lines) ≡ end_of reach f = ap (λ n. end_told reach r.end a.loss n) (AllZip-long (λ s line. IsLineOf m p (substitution s) line) r.unifiers lines listed) in
         record {
           found = f;
           solution = record {
-            explored = here.exploration;
-            solved = here.solved;
+            source = source_of here a.loss;
             headline = promised;
-            finite =
-                finite m p reach is.kinded is.vars lawful good (rewriting m.signature (equations_of m.equations)) completed
-                (turn_fits m.signature (flattened_pairs m p) (sides m p is given_law good given refl).fit) here.explored here.exploration here.laws;
+            finite = finite_of lawful good (rewriting m.signature (equations_of m.equations)) completed (turn_fits m.signature (flattened_pairs m p) (sides m p is given_law good given refl).fit) here;
             loss_is = a.loss_is;
           };
           shown = shown-lines law reach f lines listed promised.apart text (subst (λ e. IsAnswerText m.signature m.names lines e text) end_is a.shown);

@@ -1,5 +1,5 @@
 -- What is promised of unifiers in a theory holds of what the lines that are shown denote.
-use Rattle.std.proofs.Common.{ℕ, inl, inr}
+use Rattle.std.proofs.Common.{ℕ, ◌⊎◌, inl, inr}
 use Rattle.std.specs.Prelude.{All, Any}
 use Rattle.std.proofs.lemmas.List.Elements.{All-nil}
 use Rattle.fvn_terms.specs.Substitution.{Substitution}
@@ -31,7 +31,7 @@ use Rattle.fvn_cmd_words.specs.declared.reach.Reach.{Reach}
 use Rattle.fvn_cmd_exploring.specs.Searches.{AreTrusted, setting_of, limits_of}
 use Rattle.fvn_cmd_exploring.proofs.Ending.{levels_told}
 use Rattle.fvn_cmd_vunify.specs.Asked.{sides_of, flattened_pairs, UnifiesInTheory, IsIrreducibleUnifier, IsTheoryInstanceOf, IsWithinSteps, theory_unifiers_of}
-use Rattle.fvn_cmd_vunify.specs.Solutions.{Found, values, IsSolvedWhole, IsWhole, IsSolution}
+use Rattle.fvn_cmd_vunify.specs.Solutions.{Found, values, IsSolvedWhole, IsWhole, IsOfExploration, IsOfEqualSides, IsSolution}
 use Rattle.fvn_cmd_vunify.specs.Laws.{IsPast, SolvesAllPairs, ShownTheoryUnifiersKeepThePromise}
 use Rattle.fvn_cmd_vunify.proofs.Headline.{IsLawful, one, kinds, from_command, theory-instance}
 use Rattle.fvn_cmd_vunify.proofs.InTurn.{sides_flat, within_along}
@@ -40,9 +40,9 @@ use Rattle.fvn_cmd_vunify.proofs.Denoted.{unifier_lines}
 
 module _ (m : Contents) (p : Problem) (reach : Reach) (kinded : All (AreOfOneKind m.signature) p.pairs) (vars : HasVariables m.signature p) (lawful : IsLawful) (good : IsGood m.signature) (rewriting : RewritingLaws m.signature (equations_of m.equations))
     (found : Found) (solution : IsSolution m p reach found) where
-  past : (k : ℕ) → IsPast reach found k → ReachesPast (setting_of m reach) (IsDrawn m.signature) (sides_in_turn (flattened_pairs m p)) (limits_of m reach 1) found.explored k
-  past k (inl e) = let told = levels_told reach found.solved.end found.loss _ k e in inr (told.0, told_first m reach (flattened_pairs m p) found.explored found.solved solution.solved (Levels told.0) (no_levels told.0) told.1, told.2)
-  past k (inr d) = inl d
+  past : IsOfExploration m p reach found → (k : ℕ) → IsPast reach found k → ReachesPast (setting_of m reach) (IsDrawn m.signature) (sides_in_turn (flattened_pairs m p)) (limits_of m reach 1) found.explored k
+  past own k (inl e) = let told = levels_told reach found.solved.end found.loss _ k e in inr (told.0, told_first m reach (flattened_pairs m p) found.explored found.solved own.solved (Levels told.0) (no_levels told.0) told.1, told.2)
+  past own k (inr d) = inl d
 
   -- what is found of the flat pairs is found of the problem
   to_pairs : (s : Substitution) → IsInstanceOfSome (setting_of m reach) (plain_pairs (flattened_pairs m p)) (values found) s → IsInstanceOfSome (setting_of m reach) (pairs_of p.pairs) (values found) s
@@ -55,19 +55,25 @@ module _ (m : Contents) (p : Problem) (reach : Reach) (kinded : All (AreOfOneKin
   to_flat s is = ((one m p reach kinded vars lawful good).irreducible s).0 is
 
   pub irreducible_values : IsSolvedWhole found → AreTrusted m → (s : Substitution) → IsIrreducibleUnifier m p s → Any (IsInstanceOf m p s) (values found)
-  irreducible_values whole trusted s is = to_vars s ((solution.solved.complete whole trusted.0 trusted.1).complete s (to_flat s (from_command m p reach kinded vars lawful good s is)))
+  irreducible_values whole trusted s is = to_vars s (go solution.source (to_flat s (from_command m p reach kinded vars lawful good s is))) where
+    go : IsOfExploration m p reach found ⊎ IsOfEqualSides m p reach found → IsIrreducibleFor (setting_of m reach) (plain_pairs (flattened_pairs m p)) s → IsInstanceOfSome (setting_of m reach) (plain_pairs (flattened_pairs m p)) (values found) s
+    go (inl own) h = (own.solved.complete whole trusted.0 trusted.1).complete s h
+    go (inr own) h = own.solved.complete.complete s h
 
   module _ (confluent : IsConfluent m.signature (equations_of m.equations)) (solves : SolvesAllPairs m reach found) (k : ℕ) (is_past : IsPast reach found k) where
     near : (s : Substitution) → IsIrreducibleFor (setting_of m reach) (pairs_of p.pairs) s → IsWithinSteps m p k s → IsInstanceOfSome (setting_of m reach) (plain_pairs (flattened_pairs m p)) (values found) s
-    near s is within =
-        solution.solved.within confluent solves s (to_flat s is)
-        (record {
-          most = k;
-          reaches = past k is_past;
-          within =
-              within_along m.signature (equations_of m.equations) rewriting (sides_of (pairs_of p.pairs)) _ (sides_flat m.signature good.fits p.pairs kinded) k s
-              is.kept.unifier.0 within;
-        })
+    near s is within = go solution.source where
+      go : IsOfExploration m p reach found ⊎ IsOfEqualSides m p reach found → IsInstanceOfSome (setting_of m reach) (plain_pairs (flattened_pairs m p)) (values found) s
+      go (inr own) = own.solved.complete.complete s (to_flat s is)
+      go (inl own) =
+          own.solved.within confluent solves s (to_flat s is)
+          (record {
+            most = k;
+            reaches = past own k is_past;
+            within =
+                within_along m.signature (equations_of m.equations) rewriting (sides_of (pairs_of p.pairs)) _ (sides_flat m.signature good.fits p.pairs kinded) k s
+                is.kept.unifier.0 within;
+          })
 
     pub within_values : (s : Substitution) → IsIrreducibleUnifier m p s → IsWithinSteps m p k s → Any (IsInstanceOf m p s) (values found)
     within_values s is within = to_vars s (near s (from_command m p reach kinded vars lawful good s is) within)

@@ -14,7 +14,7 @@ use fvn_flat::{AxiomSolver, Pairs};
 use fvn_fold::explore;
 use fvn_terms::NoMemory;
 use fvn_theory::Bounds;
-use fvn_vunify::{SolvedModulo, sides_of, variant_unify};
+use fvn_vunify::{SolvedModulo, sides_of, unify_at_once, variant_unify};
 use std::alloc::Global;
 use std::marker::Brand;
 use std::thread::Threads;
@@ -43,6 +43,9 @@ fn solved_by<R: Threads + Sync, G: Gate, A: AxiomSolver>(
     let narrower = Narrower::new(search.alloc, signature, search.rules, solver, bounds);
     explorations_are_lawful(&narrower);
     let sides = sides_of(search.alloc, given)?;
+    if let Some(solved) = unify_at_once(search.alloc, signature, &narrower, sides.as_slice())? {
+        return Ok(solved);
+    }
     let x = explore(
         rt,
         search.alloc,

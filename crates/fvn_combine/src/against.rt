@@ -1,7 +1,7 @@
 //! Tags that go against what is noted of classes.
-ghost use Rattle.std.specs.Prelude.{◌≡◌, ◌<◌, length, All, Any, Contains, IsTrue, IfSome};
+ghost use Rattle.std.specs.Prelude.{◌≡◌, ◌<◌, length, All, Contains, IsTrue, IfSome};
 ghost use Rattle.fvn_combine_leaves.specs.Users.{IsWhole};
-ghost use Rattle.fvn_combine.specs.inner.Against.{IsAgainst, IsLooseAgainst, IsAgainstUpTo, IsAgainstAt};
+ghost use Rattle.fvn_combine.specs.inner.Against.{IsAgainst, IsLooseAgainst, GoesAgainst, IsAgainstAt};
 
 use crate::homes::{is_other, leave_homeless};
 use crate::opened::Opened;
@@ -47,44 +47,6 @@ fn is_against(
     }
 }
 
-// Whether some tag goes against what is noted of its class.
-fn go_against(
-    sig: &Signature,
-    shared: &[SharedClass],
-    labels: &[Option<OpId>],
-    tags: &[Option<OpId>],
-) -> bool
-    requires labels { All (λ c. c.class < length labels.now) shared.now }
-    requires tags { All (λ c. c.class < length tags.now) shared.now }
-    ensures { IsTrue result → Any (IsAgainst sig.now labels.now tags.now) shared.now }
-{
-    for entry in shared {
-        if is_against(sig, entry, labels, tags) {
-            return true;
-        }
-    }
-    false
-}
-
-// Whether some tag of these shared classes goes against what is noted of its class, or they leave one without a home.
-fn are_against(
-    sig: &Signature,
-    opened: &Opened,
-    decided: &[SharedClass],
-    tags: &[Option<OpId>],
-) -> bool
-    requires labels { All (λ c. c.class < length opened.now.labels) decided.now }
-    requires tags { All (λ c. c.class < length tags.now) decided.now }
-    requires whole { IsWhole (length opened.now.reading.heads) opened.now.reading }
-    requires bases { length opened.now.bases ≡ length opened.now.reading.sums }
-    ensures { IsTrue result → IsAgainstUpTo sig.now opened.now decided.now tags.now }
-{
-    if go_against(sig, decided, opened.labels.as_slice(), tags) {
-        return true;
-    }
-    leave_homeless(decided, tags, &opened.reading, opened.bases.as_slice())
-}
-
 // Whether the class is one of the list.
 fn is_loose(loose: &[usize], class: usize) -> bool
     ensures { IsTrue result → Contains loose.now class }
@@ -112,8 +74,26 @@ fn is_loose_against(
     }
 }
 
-/// The first place at which the tags of the shared classes up to it go against what is noted, whatever the tags of the
-/// later ones.
+// Whether the tag of the class goes against what is noted of it, or it is loose and has one of no note.
+fn goes_against(
+    sig: &Signature,
+    opened: &Opened,
+    entry: &SharedClass,
+    tags: &[Option<OpId>],
+) -> bool
+    requires labels { entry.now.class < length opened.now.labels }
+    requires tags { entry.now.class < length tags.now }
+    ensures { IsTrue result → GoesAgainst sig.now opened.now tags.now entry.now }
+{
+    let labels = opened.labels.as_slice();
+    if is_loose_against(entry, opened.loose.as_slice(), labels, tags) {
+        return true;
+    }
+    is_against(sig, entry, labels, tags)
+}
+
+/// The first place at which the tags of the shared classes up to it go against what is noted, or leave one without a home,
+/// whatever the tags of the later ones.
 pub(crate) fn first_against(
     sig: &Signature,
     opened: &Opened,
@@ -127,15 +107,11 @@ pub(crate) fn first_against(
 {
     let shared = opened.shared.as_slice();
     for place in 0..shared.len() {
-        if is_loose_against(
-            &shared[place],
-            opened.loose.as_slice(),
-            opened.labels.as_slice(),
-            tags,
-        ) {
+        if goes_against(sig, opened, &shared[place], tags) {
             return Some(place);
         }
-        if are_against(sig, opened, &shared[..place + 1], tags) {
+        let decided = &shared[..place + 1];
+        if leave_homeless(decided, tags, &opened.reading, opened.bases.as_slice()) {
             return Some(place);
         }
     }

@@ -14,7 +14,7 @@ ghost use Rattle.fvn_combine_leaves.specs.Readings.{AreSums, IsReading};
 ghost use Rattle.fvn_combine_candidates.specs.inner.Turned.{IsTurned};
 
 use crate::defining::{copied_left, rows_left};
-use crate::once::{HeadedSums, are_choices_few, heeded_bounds};
+use crate::once::{HeadedSums, are_choices_few, are_uses_few, heeded_bounds};
 use fvn_acunify::limits::LISTED_SOLUTIONS;
 use fvn_base::Seq;
 use fvn_base::limits::MINIMAL_SOLUTIONS;
@@ -155,7 +155,7 @@ fn listed_basis(
     requires sums { AreSums sig.now table.now (class_of state.now) sums.now }
     ensures { IfOk result (λ o. IfSome o (IsBasis sums.now.system)) }
 {
-    match basis_from_last(alloc, sums, wide)? {
+    match basis_from_last(alloc, sums, wide && are_uses_few(headed, sums))? {
         None => Ok(None),
         Some(basis) => {
             if basis.len() <= MINIMAL_SOLUTIONS {
@@ -176,7 +176,8 @@ fn listed_basis(
 ///
 /// How many choices there are is estimated by sorts, where these are heeded, and by heads: for each class an operator that
 /// is known to head its value, where one is known. What is said of heads is not relied on for more. With `wide` up to 127
-/// solutions may come up on the way, which takes some hundredths of a second where there are too many; else 31.
+/// solutions may come up on the way, where no variable stands in more than eight sums; else 31. That takes some hundredths of a
+/// second where there are too many.
 pub fn bases_from_last(
     alloc: Global,
     sig: &Signature,

@@ -11,7 +11,7 @@ use fvn_base::limits::MINIMAL_SOLUTIONS;
 use fvn_combine_bounds::bounds_of;
 use fvn_combine_leaves::Sums;
 use fvn_combine_nodes::{State, Table};
-use fvn_lindio::Solution;
+use fvn_lindio::{Row, Solution};
 use fvn_signature::Signature;
 use fvn_terms::{NoMemory, OpId};
 use std::alloc::Global;
@@ -22,6 +22,9 @@ const FREE_SOLUTIONS: usize = 4;
 
 /// The most solutions of which that is asked.
 const SHARED_OUT: usize = 31;
+
+/// The most rows that may have a class of which no other head is known, where many solutions may come up on the way.
+const FEW_USES: usize = 8;
 
 /// The sum operators of a state, and what is known of its classes.
 #[derive(Clone, Copy)]
@@ -61,6 +64,40 @@ fn is_headed(heads: &[Option<OpId>], f: OpId, k: usize) -> bool {
         None => false,
         Some(g) => g != f,
     }
+}
+
+// Whether the row has something in the column.
+fn is_used(row: &Row, j: usize) -> bool {
+    match row.coefficients.as_slice().get(j) {
+        None => false,
+        Some(coefficient) => *coefficient != 0,
+    }
+}
+
+// How many rows have something in the column.
+fn count_uses(sums: &Sums, j: usize) -> usize {
+    let mut count: usize = 0;
+    for row in sums.system.rows.as_slice() {
+        if is_used(row, j) {
+            count = count.saturating_add(1);
+        }
+    }
+    count
+}
+
+/// Whether few rows of the system have any one class, but for those that other operators are known to head: where a variable
+/// stands dozens of times in sums, numbers get large on the way.
+pub(crate) fn are_uses_few(headed: HeadedSums, sums: &Sums) -> bool {
+    let columns = sums.columns.as_slice();
+    for j in 0..columns.len() {
+        if count_uses(sums, j) <= FEW_USES {
+            continue;
+        }
+        if !is_headed(headed.heads, sums.operator, columns[j]) {
+            return false;
+        }
+    }
+    true
 }
 
 // Whether the operator itself is known to head it: then the class is a sum, and no constant.

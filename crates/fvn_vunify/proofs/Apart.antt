@@ -20,7 +20,7 @@ use Rattle.fvn_vunify.specs.Sides.{two_by_two, problem_over}
 use Rattle.fvn_vunify.specs.inner.Attempts.{SomeNeverMeet, IsCandidate, IsAttempt}
 
 -- the next two of what is left
-next_two : (ts : List FlatTerm) (i : ℕ) (a b : FlatTerm) → i + 1 < length ts → a ≡ get_or ts i a → b ≡ get_or ts (i + 1) b →
+pub next_two : (ts : List FlatTerm) (i : ℕ) (a b : FlatTerm) → i + 1 < length ts → a ≡ get_or ts i a → b ≡ get_or ts (i + 1) b →
     two_by_two (drop i ts) ≡ (a, b) ∷ two_by_two (drop (i + 2) ts)
 next_two ts i a b l is_a is_b =
     let further : i + 1 + 1 ≡ i + 2 = omega arith in

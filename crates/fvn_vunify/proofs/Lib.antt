@@ -17,3 +17,5 @@ mod Passing
 mod Staying
 mod Asking
 mod Flattened
+mod ListedForms
+mod AtOnce

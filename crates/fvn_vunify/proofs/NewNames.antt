@@ -34,7 +34,7 @@ values_whole v i now l h =
 pub values_distinct : (v : Variant) → Distinct (variables_of_values v)
 values_distinct v = with_all_distinct (fpack (values_of v)) [] tt
 
-each_listed : (l : List FlatTerm) (vars : List Var) (t : FlatTerm) → Contains l t → (y : Var) → Occurs y (plain t) → listed (with_all_variables (fpack l) vars) y ≡ true
+pub each_listed : (l : List FlatTerm) (vars : List Var) (t : FlatTerm) → Contains l t → (y : Var) → Occurs y (plain t) → listed (with_all_variables (fpack l) vars) y ≡ true
 each_listed [] vars t m y o = absurd (contains_none t m)
 each_listed (u ∷ l) vars t m y o = elim (contains_cases u l t m) as (λ _. listed (with_all_variables (fpack (u ∷ l)) vars) y ≡ true) [
   | inl e ↦ still_all_listed (fpack l) (with_variables u vars) y (occurring_listed u vars y (subst (λ (w : FlatTerm). Occurs y (plain w)) (sym e) o))

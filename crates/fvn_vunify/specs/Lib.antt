@@ -3,5 +3,6 @@ pub mod Sides
 pub mod Solutions
 pub mod Causes
 pub mod Solved
+pub mod AtOnce
 pub mod Laws
 pub mod inner

@@ -3,3 +3,4 @@ pub mod Ends
 pub mod Names
 pub mod Tests
 pub mod Attempts
+pub mod OneForms

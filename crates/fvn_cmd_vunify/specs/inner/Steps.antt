@@ -1,5 +1,5 @@
 -- What the steps of `vunify` are given, find and reply.
-use Rattle.std.specs.Prelude.{◌≤◌, ℕ, List, length, All}
+use Rattle.std.specs.Prelude.{◌≤◌, ◌⊎◌, ℕ, List, length, All}
 use Rattle.fvn_terms.specs.declared.declarations.Declarations.{Declarations}
 use Rattle.fvn_terms.specs.Substitution.{Substitution}
 use Rattle.fvn_terms.specs.Unifiers.{Problem}
@@ -17,6 +17,7 @@ use Rattle.fvn_closure.specs.Laws.{ExplorationsAreLawful}
 use Rattle.fvn_vunify.specs.declared.solved.SolvedModulo.{SolvedModulo}
 use Rattle.fvn_vunify.specs.Sides.{sides_in_turn}
 use Rattle.fvn_vunify.specs.Solved.{IsSolvedModulo}
+use Rattle.fvn_vunify.specs.AtOnce.{IsSolvedAtOnce}
 use Rattle.fvn_answer.specs.Asked.{AreAsked}
 use Rattle.fvn_cmd.specs.declared.status.Status.{Status}
 use Rattle.fvn_cmd_words.specs.declared.reach.Reach.{Reach}
@@ -31,12 +32,17 @@ pub record AreSides (d : Declarations) (pairs : FlatPairs) : Type 0 where
 
 -- the sides of the pairs were explored with a solver that may draw so, and the pairs solved in what was found; and what is
 -- known of such explorations
-pub record IsSolvedBy (m : Contents) (reach : Reach) (drawn : Problem → Substitution → Type 0) (pairs : FlatPairs)
+pub record IsSolvedExploring (m : Contents) (reach : Reach) (drawn : Problem → Substitution → Type 0) (pairs : FlatPairs)
     (r : SolvedModulo) : Type 0 where
   pub explored : Explored
   pub exploration : IsExploration (setting_of m reach) drawn (sides_in_turn pairs) (limits_of m reach 1) explored
   pub laws : ExplorationsAreLawful (setting_of m reach) drawn
   pub solved : IsSolvedModulo (setting_of m reach) drawn pairs (limits_of m reach 1) explored r
+
+-- the pairs were solved so, or at once
+abbrev pub IsSolvedBy : Contents → Reach → (Problem → Substitution → Type 0) → FlatPairs → SolvedModulo → Type 0
+IsSolvedBy m reach drawn pairs r =
+    IsSolvedExploring m reach drawn pairs r ⊎ IsSolvedAtOnce (setting_of m reach) pairs r
 
 -- the same with the solver modulo the axioms
 abbrev pub IsSolvedIn : Contents → Reach → FlatPairs → SolvedModulo → Type 0

@@ -25,6 +25,10 @@ pub record IsLooseAgainst (loose : List ℕ) (labels tags : List (Option OpId)) 
 
 -- Tags at an open leaf.
 module _ (d : Declarations) (o : Opened) where
+  -- either is so with the class
+  abbrev pub GoesAgainst : List (Option OpId) → SharedClass → Type 0
+  GoesAgainst tags c = IsAgainst d o.labels tags c ⊎ IsLooseAgainst o.loose o.labels tags c
+
   -- so it is with one of the shared classes whose tags are decided, or one that is loose has a tag of no note, or these tags leave one without a home
   abbrev pub IsAgainstUpTo : List SharedClass → List (Option OpId) → Type 0
   IsAgainstUpTo decided tags =

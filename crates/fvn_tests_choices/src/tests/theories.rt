@@ -3,9 +3,9 @@ ghost use Rattle.std.specs.Prelude.{◌<◌};
 ghost use Rattle.fvn_acunify.specs.Theory.{IsOneTheory};
 
 use super::kept::{keeps, one_row};
-use fvn_acunify::{Choices, ColumnBounds, OneFault, OneTheory, solve_one};
+use fvn_acunify::{Choices, ColumnBounds, OneFault, OneTheory, choices_among, solve_one};
 use fvn_base::Seq;
-use fvn_lindio::{LinFault, Row, Solution, System};
+use fvn_lindio::{LinFault, Row, Solution, System, basis};
 use std::alloc::{AllocError, Global};
 use std::process::Abort;
 use std::test::Fail;
@@ -93,6 +93,42 @@ fn choices_within_bounds(rt: HostRuntime) -> Result<(), Fail> {
     assert_within(&rt, rt.alloc(), &[0, 1, 2, 3], &[], &[9, 8, 6, 4, 2, 1, 0])?;
     assert_within(&rt, rt.alloc(), &[0, 4], &[0, 1, 2, 3], &[11, 9, 7, 6])?;
     assert_within(&rt, rt.alloc(), &[], &[0, 4], &[])
+}
+
+/// The choices among the minimal solutions of a theory, of which there may be 127.
+fn among(alloc: Global, theory: &OneTheory) -> Result<Choices, OneFault>
+    requires { IsOneTheory theory.now }
+{
+    let solutions = basis(alloc, &theory.system, 127)?;
+    choices_among(alloc, theory, solutions.as_slice())
+}
+
+/// A variable and nine constants on the left, a variable and ten others on the right.
+fn two_sums(rt: &impl Abort, alloc: Global) -> Result<Choices, Fail> {
+    let row = &[
+        1, 1, 1, 1, 1, 1, 1, 1, 1, 1, -1, -1, -1, -1, -1, -1, -1, -1, -1, -1, -1,
+    ];
+    let constants = &[
+        1, 2, 3, 4, 5, 6, 7, 8, 9, 11, 12, 13, 14, 15, 16, 17, 18, 19, 20,
+    ];
+    let theory = one_row(alloc, row, constants, false)?;
+    assert!(rt; keeps(&theory));
+    Ok(among(alloc, &theory)?)
+}
+
+// 110 solutions, each with a left and a right column; of left column l and right column 10 + r it is the one
+// with the number 11 (9 - l) + 10 - r. 90 of them have two constants. Each constant stands with the variable of
+// the other side: 10, 21, .., 98 on the left, 99 to 108 on the right. The variables together, 109, may be taken.
+#[test]
+fn solutions_with_two_constants_are_passed_at_once(rt: HostRuntime) -> Result<(), Fail> {
+    let mut choices = two_sums(&rt, rt.alloc())?;
+    assert_eq!(rt; choices.basis().len(), 110);
+    let with = 0x3ffc_0080_1002_0040_0801_0020_0400;
+    let without = 0x1ffc_0080_1002_0040_0801_0020_0400;
+    assert_given(&rt, &mut choices, &[with, without]);
+    choices.list_full();
+    assert_given(&rt, &mut choices, &[with]);
+    Ok(())
 }
 
 /// Whether the basis of the first row has too many solutions.

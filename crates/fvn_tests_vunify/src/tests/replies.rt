@@ -35,9 +35,12 @@ ENC 9 99 99 dec(X,K) =? dec(M,L) => 0 {X:Msg --> #1:Msg, K:Key --> #2:Key, M:Msg
 PLUS 3 99 99 +(X,s(0)) =? s(s(0)) => 5 {X:Nat --> s(0)} | bound levels 3
 PLUS 3 99 99 +(X,Y) =? s(0) => 5 {X:Nat --> 0, Y:Nat --> s(0)} | {X:Nat --> s(0), Y:Nat --> 0} | bound levels 3
 PLUS 9 2 99 +(X,Y) =? Z => 5 {X:Nat --> #1:Nat, Y:Nat --> #2:Nat, Z:Nat --> +(#1:Nat,#2:Nat)} | {X:Nat --> 0, Y:Nat --> #1:Nat, Z:Nat --> #1:Nat} | bound variants 2
+PLUS 3 99 99 +(X,Y) =? +(X,Y) => 0 {X:Nat --> #1:Nat, Y:Nat --> #2:Nat} | complete 1
+PLUS 3 99 99 +(s(Y),X) =? s(+(Y,X)) /\\ Z =? +(0,Z) => 0 {Y:Nat --> #1:Nat, X:Nat --> #2:Nat, Z:Nat --> #3:Nat} | complete 1
 PLUS 9 99 99 s(X) =? s(s(Y)) /\\ Y =? 0 => 0 {X:Nat --> s(0), Y:Nat --> 0} | complete 1
 XOR 9 99 99 *(X,Y) =? mt => 0 {X:S --> #1:S, Y:S --> #1:S} | complete 1
 XOR 9 99 99 *(a,b,a) =? b => 0 {} | complete 1
+XOR 0 99 99 *(X,Y,X,Z) =? *(Z,mt,Y) => 0 {X:S --> #1:S, Y:S --> #2:S, Z:S --> #3:S} | complete 1
 XOR 9 99 99 *(X,Y) =? Z => 0 {X:S --> #1:S, Y:S --> #1:S, Z:S --> mt} | {X:S --> #1:S, Y:S --> #2:S, Z:S --> *(#1:S,#2:S)} | {X:S --> #1:S, Y:S --> *(#1:S,#2:S), Z:S --> #2:S} | {X:S --> #1:S, Y:S --> mt, Z:S --> #1:S} | {X:S --> *(#1:S,#2:S), Y:S --> #1:S, Z:S --> #2:S} | {X:S --> *(#1:S,#2:S), Y:S --> *(#1:S,#3:S), Z:S --> *(#2:S,#3:S)} | {X:S --> mt, Y:S --> #1:S, Z:S --> #1:S} | complete 7
 LOSES 9 99 99 f(X) =? Y => 5 {X:A --> #1:A, Y:B --> g(#1:A)} | cause sorts 1
 FREE 9 99 99 g(X,b) =? g(a,Y) => 0 {X:S --> a, Y:S --> b} | complete 1

@@ -8,7 +8,7 @@ use Rattle.fvn_rewrite_laws.specs.Admissible.{AreAdmissible}
 use Rattle.fvn_theory.specs.Equations.{equations_of}
 use Rattle.fvn_problems.specs.Problems.{AreOfOneKind}
 use Rattle.fvn_answer.specs.Asked.{HaveSorts}
-use Rattle.fvn_cmd_vunify.proofs.Ended.{solved_fits}
+use Rattle.fvn_cmd_vunify.proofs.Answering.{answer_fits}
 use Rattle.fvn_cmd_vunify.proofs.Replied.{sides, all_fit, all_sorted, flat_from, answer-told}
 use Rattle.fvn_cmd_vunify.proofs.replying.answer.Goals as goal
 
@@ -40,8 +40,7 @@ lines_of-requires-clause-sorts g c =
 
 pub answer_after-requires : goal.answer_after-requires
 answer_after-requires g c loss count =
-    let s = c.in_ok-r.ensures in
-    solved_fits c.args.search.now.declared.now c.args.search.now.reach c.in_ok-given.given.pairs s.explored s.exploration c.in_ok-r.r s.solved loss count
+    answer_fits c.args.search.now.declared.now c.args.search.now.reach c.in_ok-given.given.pairs c.in_ok-r.r c.in_ok-r.ensures loss count
 
 pub returns : goal.returns
 returns g c =
