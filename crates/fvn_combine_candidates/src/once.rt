@@ -23,8 +23,11 @@ const FREE_SOLUTIONS: usize = 4;
 /// The most solutions of which that is asked.
 const SHARED_OUT: usize = 31;
 
+/// Twelve bits number 4,096 choices, as many as unifiers are told: so many are gone through within a second or two.
+const NUMBERED: usize = 12;
+
 /// The most rows that may have a class of which no other head is known, where many solutions may come up on the way.
-const FEW_USES: usize = 8;
+const FEW_USES: usize = 4;
 
 /// The sum operators of a state, and what is known of its classes.
 #[derive(Clone, Copy)]
@@ -190,35 +193,14 @@ fn is_dead(heads: &[Option<OpId>], sums: &Sums, parts: &[u32]) -> bool {
     false
 }
 
-// How many solutions are not known to be never taken.
-fn count_live(heads: &[Option<OpId>], sums: &Sums, solutions: &[Solution]) -> usize {
-    let mut count: usize = 0;
-    for solution in solutions {
-        if is_dead(heads, sums, solution.parts.as_slice()) {
-            continue;
-        }
-        count = count.saturating_add(1);
-    }
-    count
-}
-
 // Whether few solutions are zero in all these columns; of a neutral operator each of them is taken.
-fn are_few_free(
-    sig: &Signature,
-    headed: HeadedSums,
-    sums: &Sums,
-    columns: &[usize],
-    solutions: &[Solution],
-) -> bool {
+fn are_few_free(sig: &Signature, sums: &Sums, columns: &[usize], solutions: &[Solution]) -> bool {
     if is_neutral(sig, sums.operator) {
         return true;
     }
     let mut left = FREE_SOLUTIONS;
     for solution in solutions {
         if !is_free(columns, solution.parts.as_slice()) {
-            continue;
-        }
-        if is_dead(headed.heads, sums, solution.parts.as_slice()) {
             continue;
         }
         if left == 0 {
@@ -316,8 +298,6 @@ fn constant_columns(
 // Whether at most 24 solutions are zero in the lone columns; of a neutral operator each that is zero in all columns of
 // constants is taken, and is not counted.
 fn are_few_open(
-    headed: HeadedSums,
-    sums: &Sums,
     neutral: bool,
     lone: &[usize],
     constants: &[usize],
@@ -332,9 +312,6 @@ fn are_few_open(
         if neutral && is_free(constants, parts) {
             continue;
         }
-        if is_dead(headed.heads, sums, parts) {
-            continue;
-        }
         if left == 0 {
             return false;
         }
@@ -346,13 +323,13 @@ fn are_few_open(
 // How many bits number so many options; one more than are ever left where these are not enough.
 fn bits_of(options: usize) -> usize {
     let mut most: usize = 1;
-    for bits in 0..MINIMAL_SOLUTIONS + 1 {
+    for bits in 0..NUMBERED + 1 {
         if options <= most {
             return bits;
         }
         most = most.saturating_mul(2);
     }
-    MINIMAL_SOLUTIONS + 1
+    NUMBERED + 1
 }
 
 // Whether the solution is marked as passed.
@@ -466,7 +443,7 @@ fn are_bits_enough(
     true
 }
 
-// Whether 24 bits number the choices: for each column that is taken once, the widest first, one of the solutions that are left
+// Whether twelve bits number the choices: for each column that is taken once, the widest first, one of the solutions that are left
 // for it, and of the others whether they are taken.
 fn are_few_in_turn(
     alloc: Global,
@@ -478,15 +455,16 @@ fn are_few_in_turn(
     solutions: &[Solution],
 ) -> Result<bool, NoMemory> {
     let mut passed = dead_marks(alloc, headed.heads, sums, solutions)?;
-    match bits_left(&mut passed, solutions, once, MINIMAL_SOLUTIONS) {
+    match bits_left(&mut passed, solutions, once, NUMBERED) {
         None => Ok(false),
         Some(left) => Ok(are_bits_enough(neutral, constants, passed.as_slice(), solutions, left)),
     }
 }
 
 /// Whether choices among so many minimal solutions are not too many: at most 24 of these are not in each choice; or there
-/// are at most 31, and few of them may be taken or not beside those that stand in a column that each choice takes once. A
-/// class that another operator is known to head is a constant, and one that the operator itself heads is none.
+/// are at most 31, and few of them may be taken or not beside those that stand in a column that each choice takes once; or at
+/// most 4,096 choices are left where those that have two constants are left out, and each such column takes one of the others.
+/// A class that another operator is known to head is a constant, and one that the operator itself heads is none.
 pub(crate) fn are_choices_few(
     alloc: Global,
     sig: &Signature,
@@ -496,22 +474,15 @@ pub(crate) fn are_choices_few(
     solutions: &[Solution],
 ) -> Result<bool, NoMemory> {
     let once = once_columns(alloc, headed.heads, sums, bounds)?;
-    if count_live(headed.heads, sums, solutions) <= SHARED_OUT {
-        if are_few_free(sig, headed, sums, once.as_slice(), solutions) {
+    if solutions.len() <= SHARED_OUT {
+        if are_few_free(sig, sums, once.as_slice(), solutions) {
             return Ok(true);
         }
     }
     let lone = lone_columns(alloc, sig, sums, once.as_slice(), solutions)?;
     let constants = constant_columns(alloc, headed, sums)?;
     let neutral = is_neutral(sig, sums.operator);
-    if are_few_open(
-        headed,
-        sums,
-        neutral,
-        lone.as_slice(),
-        constants.as_slice(),
-        solutions,
-    ) {
+    if are_few_open(neutral, lone.as_slice(), constants.as_slice(), solutions) {
         return Ok(true);
     }
     let few = are_few_in_turn(
