@@ -408,6 +408,9 @@ fn bits_left(
     let mut left = most;
     for _column in columns {
         let (j, options) = widest(passed.as_slice(), solutions, columns);
+        if options == 0 {
+            return Some(left);
+        }
         let bits = bits_of(options);
         if bits > left {
             return None;
