@@ -4,7 +4,7 @@ ghost use Rattle.fvn_flat.specs.Fits.{Fits};
 ghost use Rattle.fvn_lifting.specs.Pairs.{IsMetInPairs};
 ghost use Rattle.fvn_narrow.specs.inner.Joining.{AreJoined};
 ghost use Rattle.fvn_narrow.specs.inner.Turns.{turn_of, try_of, IsReady, IsTurnAt, IsTryOf, IsPassedOver};
-ghost use Rattle.fvn_narrow.specs.inner.Turns.{ForEach, TryLiftsUnless, TryLiftsAmong, AreFound};
+ghost use Rattle.fvn_narrow.specs.inner.Turns.{ForEach, TryLifts, TryLiftsUnless, TryLiftsAmong, AreFound};
 
 use crate::pairing::is_met_in_pairs;
 use crate::posing::is_whole;

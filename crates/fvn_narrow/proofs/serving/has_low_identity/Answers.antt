@@ -4,8 +4,8 @@ use Rattle.fvn_terms.specs.declared.plain.SortId.{SortId}
 use Rattle.fvn_terms.specs.Signature.{AtOrBelow}
 use Rattle.fvn_narrow.proofs.serving.has_low_identity.Goals as goal
 
-pub returns-in-None : goal.returns-in-None
-returns-in-None c = λ yes. inl (sym c.identity.ensures ∙ c.in-None.is)
+pub returns-in_default : goal.returns-in_default
+returns-in_default c = λ yes. inl (sym c.identity.ensures ∙ c.in_default.is)
 
 pub returns : goal.returns
 returns c = λ yes. inr (

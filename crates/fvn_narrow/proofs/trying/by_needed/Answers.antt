@@ -1,5 +1,5 @@
 -- The rule itself, or the one that replaces it.
-use Rattle.std.proofs.Common.{ap, ◌∙◌, subst}
+use Rattle.std.proofs.Common.{sym, ap, ◌∙◌, subst}
 use Rattle.std.specs.Prelude.{Contains}
 use Rattle.fvn_terms.specs.declared.declarations.Declarations.{Declarations}
 use Rattle.fvn_flat.specs.Fits.{Fits}
@@ -24,8 +24,8 @@ by_rule-requires g c =
       turn = meeting_of r c.recall.ensures.good usable laws c.args.start.now.variant p.at.now (turn_of p.member p.path.now p.beside c.args.rule.now) c.requires.turn;
     }
 
-pub by_rule-by_other-requires : goal.by_rule-by_other-requires
-by_rule-by_other-requires g c =
+pub by_rule-requires-2 : goal.by_rule-requires-2
+by_rule-requires-2 g c =
     let r = c.args.tools.now.rewriter.now in
     let p = c.args.part.now in
     let usable = c.recall.ensures.usable in
