@@ -1,5 +1,5 @@
 -- One form more.
-use Rattle.std.proofs.Common.{sym, subst}
+use Rattle.std.proofs.Common.{subst}
 use Rattle.std.proofs.lemmas.List.{take_all}
 use Rattle.std.proofs.lemmas.List.Elements.{All-more}
 use Rattle.fvn_terms.specs.Substitution.{Occurs}
@@ -12,7 +12,7 @@ pub loop-t-preserved : goal.loop-t-preserved
 loop-t-preserved c =
     let t : FlatTerm = c.t-item.result in
     All-more (λ (w : FlatTerm). Occurs c.args.x (plain w) → ⊥) c.args.ts.now c.loop-t.t-index t c.loop-t-test.true c.loop-t.invariant
-    (subst (λ (w : FlatTerm). Occurs c.args.x (plain w) → ⊥) (sym c.t-item.is) (not_there c.has_var-within.result (Occurs c.args.x (plain t)) c.has_var-within.ensures c.if-within.false))
+    (subst (λ (w : FlatTerm). Occurs c.args.x (plain w) → ⊥) c.t-item.is (not_there c.has_var-within.result (Occurs c.args.x (plain t)) c.has_var-within.ensures c.if-within.false))
 
 pub returns : goal.returns
 returns c = λ yes. subst (StandsInNone c.args.x) (take_all c.loop-t.t-index c.args.ts.now c.loop-t-test.false) c.loop-t.invariant
