@@ -66,7 +66,7 @@ in_places r unifiers drawn v places are e found = found_so r unifiers drawn v (F
       let p = are.enough turn.member there (turn.path, record { term = t.term; is = t.is; leads = leads }) record { operator = t.operator; heads = t.heads; rule = turn.rule; listed = t.needed } in
       let q = All-contains (IsPlaceIn v.terms) places p.0 are.sound p.1 in
       let same : t.operator ≡ p.0.head = one_operator t.operator p.0.head (sym t.heads ∙ sym (ap head_of p.2) ∙ q.heads) in
-      h (try_of there turn.rule) (p.0, p.1, sym p.2, subst (λ f. Contains (headed r.rules f) turn.rule) same t.needed)
+      h (try_of there turn.rule) (p.0, p.1, (sym p.2, subst (λ f. Contains (headed r.rules f) turn.rule) same t.needed))
 
 -- a start with irreducible values is ready
 pub ready_start : (r : Rewriting) (next : ℕ) (v start : Variant) → IsStartOf r.signature next v start → AreIrreducible r.signature (equations_by r) start.vars start.subst → IsReady r start next

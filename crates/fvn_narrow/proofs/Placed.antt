@@ -3,7 +3,7 @@ use Rattle.std.proofs.Common.{◌≡◌, ◌⊎◌, ◌<◌, ◌≤◌, ◌+◌,
 use Rattle.std.specs.Prelude.{All, Contains, slice_get}
 use Rattle.std.proofs.lemmas.Option.{slice_get_within}
 use Rattle.std.proofs.lemmas.List.{take_all}
-use Rattle.std.proofs.lemmas.List.Elements.{All-nil, All-append, Contains-append_left, Contains-append_right}
+use Rattle.std.proofs.lemmas.List.Elements.{All-nil, All-push, Contains-append_left, Contains-append_right}
 use Rattle.fvn_base.proofs.Membership.{contains_here, contains_none}
 use Rattle.fvn_terms.specs.declared.plain.OpId.{OpId}
 use Rattle.fvn_forms.specs.Flat.{FlatTerm}
@@ -68,7 +68,7 @@ module _ (rules : RuleLists) (terms : List FlatTerm) where
       pub one_added : (f : OpId) → head_of at ≡ Some f → (places all : List Place) (place : Place) → all ≡ places ++ place ∷ [] → place.member ≡ member → place.path ≡ path → place.at.now ≡ at → place.head ≡ f →
           ArePlacesWith rules terms (StandsAt terms member path) places all
       one_added f heads places all place e member_is path_is at_is head_is = record {
-        sound = λ s. subst (All (IsPlaceIn terms)) (sym e) (All-append (IsPlaceIn terms) places (place ∷ []) s (stands, All-nil (IsPlaceIn terms)));
+        sound = λ s. subst (All (IsPlaceIn terms)) (sym e) (All-push (IsPlaceIn terms) places place s stands);
         kept = λ there h. (h.0, subst (λ l. Contains l h.0) (sym e) (Contains-append_left places (place ∷ []) h.0 h.1), h.2);
         enough = λ there s n. (place, subst (λ l. Contains l place) (sym e) (Contains-append_right places (place ∷ []) place (contains_here place [])), at_is ∙ one_end there s);
       } where

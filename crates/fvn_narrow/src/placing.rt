@@ -53,7 +53,7 @@ fn with_form<'t>(
 ) -> Result<Vec<Place<'t>>, NoMemory>
     requires { member < length terms.now }
     ensures { IfOk result (λ all.
-        ArePlacesWith rules.now terms.now (StandsAt terms.now member path.now) places.items all.items) }
+        ArePlacesWith rules.now terms.now (StandsAt terms.now member path.now) places.entry.items all.items) }
 {
     let Some(at) = form_at(&terms[member], path) else {
         return Ok(places);
@@ -92,7 +92,7 @@ fn with_member<'t>(
 ) -> Result<Vec<Place<'t>>, NoMemory>
     requires { member < length terms.now }
     ensures { IfOk result (λ all.
-        ArePlacesWith rules.now terms.now (StandsIn terms.now member) places.items all.items) }
+        ArePlacesWith rules.now terms.now (StandsIn terms.now member) places.entry.items all.items) }
 {
     let list = paths(alloc, &terms[member])?;
     let mut all = places;

@@ -124,10 +124,10 @@ fn at_pairs_from<S: Solves>(
         start.now.variant) (IsTryFrom f (args_of sum.now.at.now)
         (headed tools.now.rewriter.now.rules f) (i, length (args_of sum.now.at.now))))) }
 {
-    let count = sum.at.args().len();
+    let ts = sum.at.args();
     let mut children = Vec::new(alloc);
-    for j in i + 1..count {
-        let again = stands_again(sum.at.args(), i + 1, j);
+    for j in i + 1..ts.len() {
+        let again = stands_again(ts, i + 1, j);
         if again {
             continue;
         }
@@ -165,10 +165,10 @@ pub(crate) fn at_pairs<S: Solves>(
         start.now.variant) (IsTryBefore f (args_of sum.now.at.now)
         (headed tools.now.rewriter.now.rules f) (length (args_of sum.now.at.now))))) }
 {
-    let count = sum.at.args().len();
+    let ts = sum.at.args();
     let mut children = Vec::new(alloc);
-    for i in 0..count {
-        let again = stands_again(sum.at.args(), 0, i);
+    for i in 0..ts.len() {
+        let again = stands_again(ts, 0, i);
         if again {
             continue;
         }

@@ -11,10 +11,10 @@ loop-member-init c =
     subst (ArePlacesWith rules terms (StandsAmong terms 0) []) (sym c.new-all.ensures.items) (among_none rules terms [])
 
 pub with_member-requires : goal.with_member-requires
-with_member-requires c = omega (arith, c.loop-member-test.true, c.len-member-end.ensures)
+with_member-requires c = omega (arith, c.loop-member-test.true)
 
 pub loop-member-preserved : goal.loop-member-preserved
 loop-member-preserved c = term_added c.args.rules.now c.args.terms.now c.loop-member.member [] c.loop-member.all.items c.in_ok-all.all.items c.loop-member.invariant c.in_ok-all.ensures
 
 pub returns : goal.returns
-returns c = all_added c.args.rules.now c.args.terms.now c.loop-member.member (omega (arith, c.loop-member-test.false, c.len-member-end.ensures)) c.loop-member.all.items c.loop-member.invariant
+returns c = all_added c.args.rules.now c.args.terms.now c.loop-member.member (omega (arith, c.loop-member-test.false)) c.loop-member.all.items c.loop-member.invariant

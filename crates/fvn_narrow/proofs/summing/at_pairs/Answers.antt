@@ -18,12 +18,9 @@ loop-i-preserved-then-again g c =
     let ts = args_of c.args.sum.now.at.now in
     let rules = headed r.rules c.args.f in
     let i = c.loop-i.i in
-    let again : StandsAgain ts 0 i = subst (λ l. StandsAgain l 0 i) c.args-in-loop-i.ensures.exact (c.stands_again-again.ensures c.if-again.true) in
+    let again : StandsAgain ts 0 i = subst (λ l. StandsAgain l 0 i) c.args-ts.ensures.exact (c.stands_again-again.ensures c.if-again.true) in
     so_far_so r unifiers (g.S.Solves.drawn n.solver.now) v (ForEach (TryLifts r unifiers v) (IsTryBefore c.args.f ts rules i)) (ForEach (TryLifts r unifiers v) (IsTryBefore c.args.f ts rules (i + 1))) c.loop-i.children.items
     (λ h try k. h try (first_pairs_again c.args.f ts rules i again try k)) c.loop-i.invariant
-
-pub stands_again-requires : goal.stands_again-requires
-stands_again-requires g c = omega (arith, c.loop-i-test.true, c.len-count.ensures, ap length c.args-in-loop-i.ensures.exact, ap length c.args-2.ensures.exact)
 
 pub loop-i-preserved : goal.loop-i-preserved
 loop-i-preserved g c =

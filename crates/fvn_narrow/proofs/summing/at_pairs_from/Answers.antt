@@ -19,12 +19,9 @@ loop-j-preserved-then-again g c =
     let rules = headed r.rules c.args.f in
     let i = c.args.i in
     let j = c.loop-j.j in
-    let again : StandsAgain ts (i + 1) j = subst (λ l. StandsAgain l (i + 1) j) c.args-in-loop-j.ensures.exact (c.stands_again-again.ensures c.if-again.true) in
+    let again : StandsAgain ts (i + 1) j = subst (λ l. StandsAgain l (i + 1) j) c.args-ts.ensures.exact (c.stands_again-again.ensures c.if-again.true) in
     so_far_so r unifiers (g.S.Solves.drawn n.solver.now) v (ForEach (TryLifts r unifiers v) (IsTryFrom c.args.f ts rules (i, j))) (ForEach (TryLifts r unifiers v) (IsTryFrom c.args.f ts rules (i, j + 1))) c.loop-j.children.items
     (λ h try k. h try (pair_again c.args.f ts rules i j again try k)) c.loop-j.invariant
-
-pub stands_again-requires : goal.stands_again-requires
-stands_again-requires g c = omega (arith, c.loop-j-test.true, c.len-count.ensures, ap length c.args-in-loop-j.ensures.exact, ap length c.args-2.ensures.exact)
 
 pub loop-j-preserved : goal.loop-j-preserved
 loop-j-preserved g c =
