@@ -51,7 +51,8 @@ LOOP sort S . op a : -> S . op f : S -> S . op term : S S S -> S . vars X Y Z : 
 // place that of `mt` beside one serves, so that there are as many children as in XOR. In PARITY the sum of two odd
 // constants is even, and stands for a variable of that sort. In GROUP two variables have 26 children: 2 by `e`, 8 and 8
 // by an inverse beside what it is of, alone and within another one, and 8 by two inverses; no sum of three is taken whole.
-// Where two places stop, the end of the first is told.
+// Where two places stop, the end of the first is told. A form that stands at two places has its children once: in *(X,X,Y)
+// there are three of the sum of X and X, and six of that of X and Y.
 const ROWS: &str = "ENC 100 dec(X,Y) => 1 whole | x0 ; f2(x0,x1) x1
 ENC 100 dec(dec(X,Y),Y) => 1 whole | f3(x0,x1) ; f2(x0,x1) x1
 ENC 100 enc(dec(X,Y),Y) => 1 whole | f2(x0,x1) ; f2(x0,x1) x1
@@ -68,6 +69,8 @@ PLUS 100 +(+(X,Y),Z) => 2 whole | f2(x0,x1) ; f0 x0 x1 | f1(f2(f2(x0,x1),x2)) ; 
 PLUS 100 +(X,+(Y,Z)) => 4 whole | f2(x0,x1) ; f0 x0 x1 | f1(f2(x0,f2(x1,x2))) ; f1(x0) x1 x2 | f2(x0,x1) ; x0 f0 x1 | f2(x0,f1(f2(x1,x2))) ; x0 f1(x1) x2
 PAIR 100 pair(fst(X),snd(X)) => 2 whole | f0(x0,x1) ; f0(x0,x1) | f0(x0,x1) ; f0(x0,x1)
 PAIR 100 pair(fst(X),snd(Y)) => 2 whole | f0(x0,f2(x1)) ; f0(x0,x2) x1 | f0(f1(x0),x1) ; x0 f0(x2,x1)
+PAIR 100 pair(fst(X),fst(X)) => 1 whole | f0(x0,x0) ; f0(x0,x1)
+PAIR 100 pair(fst(snd(X)),pair(snd(X),snd(Y))) => 2 whole | f0(f1(x0),f0(x0,f2(x1))) ; f0(x2,x0) x1 | f0(f1(f2(x0)),f0(f2(x0),x1)) ; x0 f0(x2,x1)
 PAIR 100 fst(snd(X)) => 1 whole | f1(x0) ; f0(x1,x0)
 PAIR 100 fst(snd(fst(X))) => 1 whole | f1(f2(x0)) ; f0(x0,x1)
 PAIR 100 pair(X,Y) => 0 whole
@@ -87,6 +90,8 @@ XOR 100 *(X,c) => 3 whole
 XOR 100 *(X,X) => 3 whole
 XOR 100 mt => 0 whole
 XOR 100 *(X,Y,Z) => 18 whole
+XOR 100 *(X,X,Y) => 9 whole
+XOR 100 *(X,c,c) => 4 whole
 XOR 100 *(X,Y,c) => 12 whole
 XOR 100 *(X,c,d) => 6 whole
 XORS 100 *(X,Y,Z) => 18 whole
