@@ -11,25 +11,25 @@ use Rattle.fvn_terms.specs.Term.{Term, var}
 use Rattle.fvn_terms.specs.Substitution.{Substitution, apply, Occurs}
 use Rattle.fvn_terms.specs.Signature.{kind, axioms, AtOrBelow, HasKind}
 use Rattle.fvn_terms.specs.Places.{here, stop, step}
-use Rattle.fvn_terms.specs.Equality.{two, IsAssociative, BEqual, shift}
+use Rattle.fvn_terms.specs.Equality.{two, IsAssociative, identity, BEqual, shift}
 use Rattle.fvn_terms.specs.Sorts.{HasSort, IsWellSorted}
 use Rattle.fvn_terms.proofs.Steps.{each_none, each_more}
 use Rattle.fvn_terms.proofs.Equal.{HasKind-apply, BEqual-sym, BEqual-trans, BEqual-inside}
 use Rattle.fvn_terms.proofs.WellSorted.{HasSort-apply}
 use Rattle.fvn_forms.specs.Flat.{FlatTerm, fvar, fapp, fnone, fmore, fpack, plain}
-use Rattle.fvn_forms.specs.Canon.{parts, canon}
+use Rattle.fvn_forms.specs.Canon.{parts, build, canon}
 use Rattle.fvn_forms.specs.Settled.{Settled}
 use Rattle.fvn_forms.specs.Good.{IsOfKind, IsGood}
 use Rattle.fvn_forms.specs.Ranks.{result}
 use Rattle.fvn_forms.specs.LeastSort.{least_sort, KeepsKindsOfVariables}
-use Rattle.fvn_forms.proofs.Build.{parts_none}
+use Rattle.fvn_forms.proofs.Build.{parts_none, build_right_identity}
 use Rattle.fvn_forms.proofs.Eval.{canon_settled}
 use Rattle.fvn_forms.proofs.KindsKept.{kind_unique}
 use Rattle.fvn_forms.proofs.KindsOfSums.{nest_parts_of_kind, two_of_kind}
 use Rattle.fvn_forms.proofs.ToCanon.{canon_of_kind}
 use Rattle.fvn_forms.proofs.LeastSort.{sort_in-kind, sort_of_build, least_sort_exact, least_sort_of_settled}
 use Rattle.fvn_flat.specs.Fits.{Fits}
-use Rattle.fvn_flat.specs.Forms.{variable_of, args_of}
+use Rattle.fvn_flat.specs.Forms.{variable_of, head_of, args_of}
 use Rattle.fvn_flat.specs.FlatPlaces.{Beside}
 use Rattle.fvn_flat.specs.Successors.{Narrowed}
 use Rattle.fvn_cover.specs.declared.variant.Variant.{Variant}
@@ -43,11 +43,11 @@ use Rattle.fvn_lifting.specs.Meetings.{Meet}
 use Rattle.fvn_lifting.specs.Lifted.{LiftsAt}
 use Rattle.fvn_lifting.proofs.Chosen.{chosen, chosen_if, chosen_unless, occurs_or_not, StandsFor, stands_at, sorted_each, chosen_stands}
 use Rattle.fvn_lifting.proofs.PairForms.{joined_form}
-use Rattle.fvn_lifting.proofs.Parting.{two_kinded}
 use Rattle.fvn_narrow.specs.Settings.{narrowing_setting}
-use Rattle.fvn_narrow.specs.inner.Serving.{IsLastOfThree, HasTwoFor, ServesAt}
-use Rattle.fvn_narrow.specs.inner.Turns.{IsReady, IsTurnAt, turn_of, try_of, IsTryOf, TryLifts, TryLiftsUnless, TryLiftsAmong, ForEach}
+use Rattle.fvn_narrow.specs.inner.Serving.{IsLastOfThree, HasTwoFor, HasLowIdentity, ServesAt}
+use Rattle.fvn_narrow.specs.inner.Turns.{IsReady, IsTurnAt, IsMeetingAt, turn_of, try_of, IsTryOf, TryLifts, TryLiftsUnless, TryLiftsAmong, ForEach}
 use Rattle.fvn_narrow.proofs.Turning.{IsFitTurn}
+use Rattle.fvn_narrow.proofs.Fit.{left_side_fits, meeting_of}
 use Rattle.fvn_narrow.proofs.Posed.{fit_here}
 use Rattle.fvn_narrow.proofs.Parted.{as_variable}
 
@@ -74,6 +74,12 @@ two_for left other first form last x are_two three is same outside =
 -- what has two arguments has not three
 one_of_both : (d : Declarations) (at left other at_other first : FlatTerm) → ServesAt d at left other → ServesAt d at_other first left → ⊥
 one_of_both d at left other at_other first h j = let q : 2 ≡ 3 = ap length (sym h.parts.are_two) ∙ ap length j.parts.are_three in absurd (omega (arith, q))
+
+not_nil : {A : Type 0} (a : A) (l : List A) → a ∷ l ≡ [] → ⊥
+not_nil a l e = cc
+
+one_identity : (e o : OpId) → Some e ≡ Some o → e ≡ o
+one_identity e o is = cc
 
 module _ (d : Declarations) (good : IsGood d) (at left other : FlatTerm) (at_fits : Fits d at) (fits : Fits d left) (other_fits : Fits d other) (h : ServesAt d at left other) (s c : Substitution) (meet : Meet d (plain at) (plain other) s c) where
   abbrev f : OpId
@@ -105,7 +111,7 @@ module _ (d : Declarations) (good : IsGood d) (at left other : FlatTerm) (at_fit
   kinded = nest_parts_of_kind d good.fits f assoc k h.parts.one (fmore h.parts.rest (fmore last fnone)) joined
 
   left_kinded : AllByRecursion (λ w. HasKind d (plain w) fits.kinded.0) (fvar x ∷ last ∷ [])
-  left_kinded = two_kinded d good f assoc h.sort.no_identity left (fvar x) last fits h.heads h.parts.are_two
+  left_kinded = nest_parts_of_kind d good.fits f assoc fits.kinded.0 (fvar x) (fmore last fnone) (subst (λ w. HasKind d (plain w) fits.kinded.0) left_is fits.kinded.1)
 
   last_kind : HasKind d (plain last) k
   last_kind = let later = kinded.1 in let end = later.1 in end.0
@@ -155,28 +161,51 @@ module _ (d : Declarations) (good : IsGood d) (at left other : FlatTerm) (at_fit
   own_keeps : KeepsKindsOfVariables d (λ y. y.sort)
   own_keeps y i = refl
 
-  not_none : (w : FlatTerm) → Settled d w → parts d f w ≡ [] → ⊥
-  not_none w i q = let n = parts_none d f w i q in let z : Some n.0 ≡ None = sym n.1 ∙ h.sort.no_identity in cc
-
   flat_kind : (t : Term) → HasKind d t k → HasKind d (plain (canon d t)) k
   flat_kind t i = canon_of_kind d good.fits t k i
 
-  sort_is : least_sort d (canon d (two f both e)) ≡ result d f (least_sort d (canon d both) ∷ least_sort d (canon d e) ∷ [])
-  sort_is =
-      sort_of_build d good (λ y. y.sort) own_keeps f (canon d both ∷ canon d e ∷ []) (canon_settled d both, (canon_settled d e, tt))
-      (not_none (canon d both) (canon_settled d both), (not_none (canon d e) (canon_settled d e), tt)) k
+  sort_is : (parts d f (canon d both) ≡ [] → ⊥) → (parts d f (canon d e) ≡ [] → ⊥) → least_sort d (canon d (two f both e)) ≡ result d f (least_sort d (canon d both) ∷ least_sort d (canon d e) ∷ [])
+  sort_is some last_some =
+      sort_of_build d good (λ y. y.sort) own_keeps f (canon d both ∷ canon d e ∷ []) (canon_settled d both, (canon_settled d e, tt)) (some, (last_some, tt)) k
       (of_two (plain (canon d both)) (plain (canon d e)) (flat_kind both both_kind) (flat_kind e e_kind))
 
   of_the_kind : (t : FlatTerm) → Settled d t → HasKind d (plain t) k → IsOfKind d f (least_sort d t)
   of_the_kind t i j = record { rank = joined.rank; listed = joined.listed; kind_is = sort_in-kind d good (λ y. y.sort) own_keeps t i k j ∙ sym joined.result }
 
-  both_below : AtOrBelow d (least_sort d (canon d both)) x.sort × AtOrBelow d (least_sort d (canon d e)) x.sort
-  both_below =
-      h.sort.keep (least_sort d (canon d both)) (least_sort d (canon d e)) (of_the_kind (canon d both) (canon_settled d both) (flat_kind both both_kind)) (of_the_kind (canon d e) (canon_settled d e) (flat_kind e e_kind))
-      (subst (λ q. AtOrBelow d q x.sort) sort_is below)
+  -- also where it is the identity
+  where_empty : parts d f (canon d both) ≡ [] → AtOrBelow d (least_sort d (canon d both)) x.sort
+  where_empty none =
+      let n = parts_none d f (canon d both) (canon_settled d both) none in
+      subst (λ w. AtOrBelow d (least_sort d w) x.sort) (sym n.2) (identity_low h.sort.neutral n.0 n.1)
+    where
+      identity_low : HasLowIdentity d f x.sort → (o : OpId) → identity (axioms d f) ≡ Some o → AtOrBelow d (result d o []) x.sort
+      identity_low (inl without) o is = let q : Some o ≡ None = sym is ∙ without in cc
+      identity_low (inr low) o is = let same : low.0 ≡ o = one_identity low.0 o (sym low.1 ∙ is) in subst (λ w. AtOrBelow d (result d w []) x.sort) same low.2
+
+  -- or what the last takes is
+  where_alone : parts d f (canon d e) ≡ [] → AtOrBelow d (least_sort d (canon d both)) x.sort
+  where_alone none =
+      let n = parts_none d f (canon d e) (canon_settled d e) none in
+      let alone : canon d (two f both e) ≡ canon d both = ap (λ w. build d f (canon d both ∷ w ∷ [])) n.2 ∙ build_right_identity d f n.0 n.1 (canon d both) (canon_settled d both) in
+      subst (λ w. AtOrBelow d (least_sort d w) x.sort) alone below
+
+  where_both : (parts d f (canon d both) ≡ [] → ⊥) → (parts d f (canon d e) ≡ [] → ⊥) → AtOrBelow d (least_sort d (canon d both)) x.sort
+  where_both some last_some = (both_below some last_some).0 where
+    both_below : (parts d f (canon d both) ≡ [] → ⊥) → (parts d f (canon d e) ≡ [] → ⊥) → AtOrBelow d (least_sort d (canon d both)) x.sort × AtOrBelow d (least_sort d (canon d e)) x.sort
+    both_below some last_some =
+        h.sort.keep (least_sort d (canon d both)) (least_sort d (canon d e)) (of_the_kind (canon d both) (canon_settled d both) (flat_kind both both_kind)) (of_the_kind (canon d e) (canon_settled d e) (flat_kind e e_kind))
+        (subst (λ q. AtOrBelow d q x.sort) (sort_is some last_some) below)
+
+  both_low : AtOrBelow d (least_sort d (canon d both)) x.sort
+  both_low = go (parts d f (canon d both)) refl (parts d f (canon d e)) refl
+    where
+      go : (l : List FlatTerm) → parts d f (canon d both) ≡ l → (m : List FlatTerm) → parts d f (canon d e) ≡ m → AtOrBelow d (least_sort d (canon d both)) x.sort
+      go [] p m q = where_empty p
+      go (a ∷ l) p [] q = where_alone q
+      go (a ∷ l) p (b ∷ m) q = where_both (λ z. not_nil a l (sym p ∙ z)) (λ z. not_nil b m (sym q ∙ z))
 
   both_sort : HasSort d both x.sort
-  both_sort = (least_sort_exact d good both (k, both_kind) x.sort).1 both_below.0
+  both_sort = (least_sort_exact d good both (k, both_kind) x.sort).1 both_low
 
   -- and the variable takes it
   abbrev sent : Substitution
@@ -207,10 +236,38 @@ served_lifts g good vars from at left other at_fits fits other_fits h children l
     let m = meets_first g.declarations good at left other at_fits fits other_fits h s c meet in
     lifts s m.0 keeps m.1
 
+-- a rule that replaces another one
+module _ (r : Rewriting) (good : IsGood r.signature) (usable : AreUsable r.signature r.rules) (laws : RuleLaws r.signature (equations_by r)) (v : Variant) (member : ℕ) (path : List ℕ) (beside : Beside) (at : FlatTerm) (rule other : Rule)
+    (t : IsTurnAt r v at (turn_of member path beside rule)) (listed : Contains r.rules.rules other) (serves : ServesAt r.signature at other.left rule.left) where
+  given : Contains r.rules.rules rule × (head_of rule.left ≡ Some t.operator)
+  given = usable.rules.given t.operator rule t.needed
+
+  -- it is met at the form too
+  pub other_meets : IsMeetingAt r v at (turn_of member path beside other)
+  other_meets = record {
+    term = t.term;
+    is = t.is;
+    whole = t.whole;
+    leads = t.leads;
+    part = t.part;
+    left = t.left;
+    operator = t.operator;
+    heads = t.heads;
+    listed = listed;
+    left_heads = serves.heads ∙ sym serves.other_heads ∙ given.1;
+  }
+
+  -- and where what meets it lifts, so does what meets the other
+  pub other_lifts : (unifiers : ℕ) → Fits r.signature at → (children : List Variant) → TryLifts r unifiers v (try_of at other) children → TryLifts r unifiers v (try_of at rule) children
+  other_lifts unifiers at_fits children lifts =
+      served_lifts (narrowing_setting r unifiers) good v.vars (narrowed v) at other.left rule.left at_fits (left_side_fits r good usable laws other listed) (left_side_fits r good usable laws rule given.0) serves children lifts
+
 module _ (r : Rewriting) (good : IsGood r.signature) (usable : AreUsable r.signature r.rules) (laws : RuleLaws r.signature (equations_by r)) (unifiers : ℕ) (v : Variant) (next : ℕ) (ready : IsReady r v next)
     (member : ℕ) (path : List ℕ) (beside : Beside) (at : FlatTerm) (rules : List Rule) (turns : All (λ (rule : Rule). IsTurnAt r v at (turn_of member path beside rule)) rules) where
   fit : (rule : Rule) → Contains rules rule → IsFitTurn r v at (turn_of member path beside rule)
-  fit rule listed = fit_here r good usable laws v next ready at (turn_of member path beside rule) (All-contains (λ (rule : Rule). IsTurnAt r v at (turn_of member path beside rule)) rules rule turns listed)
+  fit rule listed =
+      let turn = turn_of member path beside rule in
+      fit_here r good usable laws v next ready at turn (meeting_of r good usable laws v at turn (All-contains (λ (rule : Rule). IsTurnAt r v at (turn_of member path beside rule)) rules rule turns listed))
 
   pub part_fits : (rule : Rule) → Contains rules rule → Fits r.signature at
   part_fits rule listed = (fit rule listed).at_fits

@@ -1,10 +1,10 @@
 //! Rules that serve at a form in place of others: a variable takes what two arguments of the other rule take.
-ghost use Rattle.std.specs.Prelude.{◌≡◌, Some, IsTrue, IfSome};
+ghost use Rattle.std.specs.Prelude.{◌≡◌, Some, Contains, IsTrue, IfSome};
 ghost use Rattle.fvn_flat.specs.Fits.{Fits};
 ghost use Rattle.fvn_flat.specs.Forms.{head_of, args_of};
-ghost use Rattle.fvn_narrow.specs.inner.Serving.{IsLastOfThree, HasTwoFor, HasKeptSort, ServesAt, SomeServes};
+ghost use Rattle.fvn_narrow.specs.inner.Serving.{IsLastOfThree, HasTwoFor, HasLowIdentity, HasKeptSort, ServesAt, SomeServes};
 
-use crate::pairing::{has_no_identity, is_associative, summands_keep, two_of};
+use crate::pairing::{is_associative, summands_keep, two_of};
 use fvn_flat::Flat;
 use fvn_rewrite_rules::Rule;
 use fvn_signature::Signature;
@@ -55,6 +55,17 @@ fn variable_for_two(left: &Flat, other: &Flat) -> Option<Var>
     Some(x)
 }
 
+// Whether the operator has no identity, or one of the sort.
+fn has_low_identity(sig: &Signature, f: OpId, s: SortId) -> bool
+    ensures { IsTrue result → HasLowIdentity sig.now f s }
+{
+    let Some(e) = sig.identity(f) else {
+        return true;
+    };
+    let low = sig.result(e, &[]);
+    sig.leq(low, s)
+}
+
 // Whether the form has the sort, which the summands of the operator keep.
 fn has_kept_sort(sig: &Signature, f: OpId, s: SortId, at: &Flat) -> bool
     requires { Fits sig.now at.now }
@@ -64,8 +75,8 @@ fn has_kept_sort(sig: &Signature, f: OpId, s: SortId, at: &Flat) -> bool
     if !associative {
         return false;
     }
-    let lasting = has_no_identity(sig, f);
-    if !lasting {
+    let neutral = has_low_identity(sig, f, s);
+    if !neutral {
         return false;
     }
     let keep = summands_keep(sig, f, s);
@@ -105,4 +116,42 @@ pub(crate) fn some_serves(sig: &Signature, at: &Flat, rules: &[Rule], rule: &Rul
         }
     }
     false
+}
+
+// Whether the other rule is one of the same equation that serves at the form in this one's place, under an operator
+// with an identity.
+fn replaces(sig: &Signature, at: &Flat, other: &Rule, rule: &Rule) -> bool
+    requires { Fits sig.now at.now }
+    ensures { IsTrue result → ServesAt sig.now at.now other.now.left rule.now.left }
+{
+    if other.equation != rule.equation {
+        return false;
+    }
+    let Some(f) = rule.left.head() else {
+        return false;
+    };
+    if sig.identity(f).is_none() {
+        return false;
+    }
+    serves_at(sig, at, &other.left, &rule.left)
+}
+
+// The first of the rules that replaces this one at the form.
+pub(crate) fn replacement<'r>(
+    sig: &Signature,
+    at: &Flat,
+    rules: &'r [Rule],
+    rule: &Rule,
+) -> Option<&'r Rule>
+    requires { Fits sig.now at.now }
+    ensures { IfSome result (λ other.
+        Contains rules.now other.now × ServesAt sig.now at.now other.now.left rule.now.left) }
+{
+    for other in rules {
+        let serves = replaces(sig, at, other, rule);
+        if serves {
+            return Some(other);
+        }
+    }
+    None
 }

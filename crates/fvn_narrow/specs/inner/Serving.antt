@@ -1,5 +1,5 @@
 -- Rules that serve at a form in place of others.
-use Rattle.std.specs.Prelude.{◌≡◌, List, [], ◌∷◌, length, Contains, None, Some, slice_get}
+use Rattle.std.specs.Prelude.{◌≡◌, ◌⊎◌, List, [], ◌∷◌, length, Contains, None, Some, slice_get}
 use Rattle.fvn_terms.specs.declared.plain.Var.{Var}
 use Rattle.fvn_terms.specs.declared.plain.OpId.{OpId}
 use Rattle.fvn_terms.specs.declared.plain.SortId.{SortId}
@@ -8,6 +8,7 @@ use Rattle.fvn_terms.specs.Signature.{axioms, AtOrBelow}
 use Rattle.fvn_terms.specs.Substitution.{Occurs}
 use Rattle.fvn_terms.specs.Equality.{IsAssociative, identity}
 use Rattle.fvn_forms.specs.Flat.{FlatTerm, fvar, plain}
+use Rattle.fvn_forms.specs.Ranks.{result}
 use Rattle.fvn_forms.specs.LeastSort.{least_sort}
 use Rattle.fvn_flat.specs.Forms.{head_of, args_of}
 use Rattle.fvn_rewrite_rules.specs.declared.rule.Rule.{Rule}
@@ -28,10 +29,16 @@ pub record HasTwoFor (left other : FlatTerm) (x : Var) : Type 0 where
   pub outside : Occurs x (plain last) → ⊥
 
 module _ (d : Declarations) where
-  -- the form has the sort, which the summands of f keep, and f is associative, without an identity
+  -- f has no identity, or one of the sort
+  abbrev pub HasLowIdentity : OpId → SortId → Type 0
+  HasLowIdentity f s =
+      (identity (axioms d f) ≡ None)
+      ⊎ ((e : OpId) × (identity (axioms d f) ≡ Some e) × AtOrBelow d (result d e []) s)
+
+  -- the form has the sort, which the summands of f keep, and which the identity of f has; f is associative
   pub record HasKeptSort (f : OpId) (s : SortId) (at : FlatTerm) : Type 0 where
     pub associative : IsAssociative (axioms d f)
-    pub no_identity : identity (axioms d f) ≡ None
+    pub neutral : HasLowIdentity f s
     pub keep : SummandsKeep d f s
     pub low : AtOrBelow d (least_sort d at) s
 

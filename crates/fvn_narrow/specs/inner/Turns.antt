@@ -104,6 +104,19 @@ module _ (r : Rewriting) (v : Variant) where
     pub heads : head_of at ≡ Some operator
     pub needed : Contains (headed r.rules operator) turn.rule
 
+  -- the turn's path leads to a form of which this is a part, and its rule is any whose left side the part's head heads
+  pub record IsMeetingAt (at : FlatTerm) (turn : Turn) : Type 0 where
+    pub term : FlatTerm
+    pub is : slice_get v.terms turn.member ≡ Some term
+    pub whole : FlatTerm
+    pub leads : LeadsTo turn.path term whole
+    pub part : IsPartOf whole at turn.beside
+    pub left : SomeLeft turn.beside
+    pub operator : OpId
+    pub heads : head_of at ≡ Some operator
+    pub listed : Contains r.rules.rules turn.rule
+    pub left_heads : head_of turn.rule.left ≡ Some operator
+
   -- the path leads to this form in one member, and f heads it
   pub record IsFormAt (member : ℕ) (path : List ℕ) (f : OpId) (at : FlatTerm) : Type 0 where
     pub term : FlatTerm
