@@ -8,7 +8,6 @@ use Rattle.fvn_base.proofs.Membership.{contains_here, contains_none}
 use Rattle.fvn_terms.specs.declared.plain.OpId.{OpId}
 use Rattle.fvn_forms.specs.Flat.{FlatTerm}
 use Rattle.fvn_flat.specs.Forms.{head_of}
-use Rattle.fvn_rewrite_rules.specs.declared.rule.Rule.{Rule}
 use Rattle.fvn_rewrite_rules.specs.Given.{RuleLists, headed}
 use Rattle.fvn_places.specs.Paths.{LeadsTo, LeadsNowhere, paths}
 use Rattle.fvn_places.proofs.PathFacts.{leads_once}

@@ -1,5 +1,5 @@
 -- One place for each form is enough.
-use Rattle.std.proofs.Common.{◌≡◌, List, sym, subst}
+use Rattle.std.proofs.Common.{List, sym, subst}
 use Rattle.std.specs.Prelude.{All}
 use Rattle.fvn_rewrite_rules.specs.Given.{RuleLists}
 use Rattle.fvn_narrow.specs.declared.placing.Place.{Place}

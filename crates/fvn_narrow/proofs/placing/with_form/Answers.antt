@@ -1,9 +1,7 @@
 -- No form, none with a head, no rule under it, one that has a place, or a new one.
 use Rattle.std.proofs.Common.{refl, sym, ◌∙◌, subst}
-use Rattle.std.specs.Prelude.{◌≡◌, List, [], Some, slice_get}
+use Rattle.std.specs.Prelude.{List}
 use Rattle.fvn_forms.specs.Flat.{FlatTerm}
-use Rattle.fvn_rewrite_rules.specs.Given.{headed}
-use Rattle.fvn_narrow.specs.declared.placing.Place.{Place}
 use Rattle.fvn_narrow.specs.inner.Placing.{HasPlace}
 use Rattle.fvn_narrow.proofs.Along.{read_at}
 use Rattle.fvn_narrow.proofs.Posed.{no_unifiers}

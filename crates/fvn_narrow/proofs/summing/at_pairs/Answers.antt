@@ -1,5 +1,5 @@
 -- One first summand more.
-use Rattle.std.proofs.Common.{◌≡◌, ◌+◌, ap, subst, arith}
+use Rattle.std.proofs.Common.{◌+◌, subst}
 use Rattle.std.specs.Prelude.{length}
 use Rattle.fvn_flat.specs.Forms.{args_of}
 use Rattle.fvn_rewrite_rules.specs.Given.{headed}

@@ -1,6 +1,5 @@
 -- One pair more.
-use Rattle.std.proofs.Common.{◌≡◌, ◌+◌, ap, subst, arith}
-use Rattle.std.specs.Prelude.{length}
+use Rattle.std.proofs.Common.{◌+◌, subst}
 use Rattle.fvn_flat.specs.Forms.{args_of}
 use Rattle.fvn_rewrite_rules.specs.Given.{headed}
 use Rattle.fvn_narrow.specs.inner.Pairing.{StandsAgain}

@@ -1,5 +1,5 @@
 -- The form before it is the same.
-use Rattle.std.proofs.Common.{◌-◌, refl, sym, ap, ◌∙◌, arith}
+use Rattle.std.proofs.Common.{arith}
 use Rattle.fvn_narrow.proofs.Two.{again_at}
 use Rattle.fvn_narrow.proofs.summing.stands_again.Goals as goal
 
