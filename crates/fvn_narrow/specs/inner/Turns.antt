@@ -247,22 +247,6 @@ abbrev pub IsTryBefore : OpId → List FlatTerm → List Rule → ℕ → Try �
 IsTryBefore f ts rules place try =
     (i : ℕ) × (i < place) × IsTryFrom f ts rules (i, length ts) try
 
--- the turns in one member, along one of these paths
-abbrev pub IsThrough : ℕ → List (List ℕ) → Turn → Type 0
-IsThrough member paths turn = (turn.member ≡ member) × Contains paths turn.path
-
--- the turns in one member along one path
-abbrev pub IsAlong : ℕ → List ℕ → Turn → Type 0
-IsAlong member path turn = (turn.member ≡ member) × (turn.path ≡ path)
-
--- the turns in one member
-abbrev pub IsInMember : ℕ → Turn → Type 0
-IsInMember member turn = turn.member ≡ member
-
--- the turns in one of so many members
-abbrev pub IsAmongFirst : ℕ → Turn → Type 0
-IsAmongFirst count turn = turn.member < count
-
 -- all turns
 abbrev pub IsAny : Turn → Type 0
 IsAny turn = Unit {0}

@@ -57,7 +57,8 @@ THREE sort S . ops a b c d : -> S . op + : S S -> S [assoc comm] . op term : S S
 // beside `Y` in two. Of the rule's two unifiers in its last row one gives `Y` a reducible value; `h(X,b)` has a child
 // too. In THREE the rule's extension, which is not tried, would have twelve unifiers: two where `X` is `a + b`, and ten
 // where it has a summand more. The rule itself has one of each, of which the second gives `X` a reducible value.
-// Where two places stop, the end of the first is told.
+// Where two places stop, the end of the first is told. A form that stands at two places has its children once: in *(X,X,Y)
+// there are three of the sum of X and X, and six of that of X and Y.
 const ROWS: &str = "ENC 100 dec(X,Y) => 1 whole | x0 ; f2(x0,x1) x1
 ENC 100 dec(dec(X,Y),Y) => 1 whole | f3(x0,x1) ; f2(x0,x1) x1
 ENC 100 enc(dec(X,Y),Y) => 1 whole | f2(x0,x1) ; f2(x0,x1) x1
@@ -74,6 +75,8 @@ PLUS 100 +(+(X,Y),Z) => 2 whole | f2(x0,x1) ; f0 x0 x1 | f1(f2(f2(x0,x1),x2)) ; 
 PLUS 100 +(X,+(Y,Z)) => 4 whole | f2(x0,x1) ; f0 x0 x1 | f1(f2(x0,f2(x1,x2))) ; f1(x0) x1 x2 | f2(x0,x1) ; x0 f0 x1 | f2(x0,f1(f2(x1,x2))) ; x0 f1(x1) x2
 PAIR 100 pair(fst(X),snd(X)) => 2 whole | f0(x0,x1) ; f0(x0,x1) | f0(x0,x1) ; f0(x0,x1)
 PAIR 100 pair(fst(X),snd(Y)) => 2 whole | f0(x0,f2(x1)) ; f0(x0,x2) x1 | f0(f1(x0),x1) ; x0 f0(x2,x1)
+PAIR 100 pair(fst(X),fst(X)) => 1 whole | f0(x0,x0) ; f0(x0,x1)
+PAIR 100 pair(fst(snd(X)),pair(snd(X),snd(Y))) => 2 whole | f0(f1(x0),f0(x0,f2(x1))) ; f0(x2,x0) x1 | f0(f1(f2(x0)),f0(f2(x0),x1)) ; x0 f0(x2,x1)
 PAIR 100 fst(snd(X)) => 1 whole | f1(x0) ; f0(x1,x0)
 PAIR 100 fst(snd(fst(X))) => 1 whole | f1(f2(x0)) ; f0(x0,x1)
 PAIR 100 pair(X,Y) => 0 whole
@@ -93,6 +96,8 @@ XOR 100 *(X,c) => 3 whole
 XOR 100 *(X,X) => 3 whole
 XOR 100 mt => 0 whole
 XOR 100 *(X,Y,Z) => 18 whole
+XOR 100 *(X,X,Y) => 9 whole
+XOR 100 *(X,c,c) => 4 whole
 XOR 100 *(X,Y,c) => 12 whole
 XOR 100 *(X,c,d) => 6 whole
 XORS 100 *(X,Y,Z) => 18 whole
