@@ -1,11 +1,12 @@
-//! Where turns from the root begin: a first pass from the inside out goes before them.
+//! Where turns from the root begin: passes from the inside out go before them.
 ghost use Rattle.std.specs.Prelude.{◌<◌, IfOk, IfSome};
 ghost use Rattle.fvn_flat.specs.Fits.{Fits};
 ghost use Rattle.fvn_theory.specs.Equations.{equations_of};
 ghost use Rattle.fvn_rewrite.specs.Usable.{AreUsable};
-ghost use Rattle.fvn_rewrite.specs.inner.Making.{AreStepRules, IsBegun};
+ghost use Rattle.fvn_rewrite.specs.inner.Making.{AreStepRules, IsReachedFrom};
 ghost use Rattle.fvn_rewrite.specs.inner.Walking.{IsNext};
 
+use crate::inside::{Reached, inside};
 use crate::making::{Pass, make};
 use fvn_base::limits::DEPTH;
 use fvn_flat::{Flat, flatten};
@@ -16,13 +17,6 @@ use fvn_terms::{NoMemory, rewriting_is_lawful};
 use fvn_theory::Bounds;
 use std::alloc::Global;
 
-// A form to which steps lead, and how many steps are left.
-#[derive(Drop)]
-pub(crate) struct Begun {
-    pub(crate) form: Flat,
-    pub(crate) left: u64,
-}
-
 // What the pass comes to; nothing where a limit is met, or an operator has axioms.
 fn quick(
     alloc: Global,
@@ -30,11 +24,11 @@ fn quick(
     rules: &Rules,
     t: &Flat,
     bounds: Bounds,
-) -> Result<Option<Begun>, NoMemory>
+) -> Result<Option<Reached>, NoMemory>
     requires term { Fits sig.now t.now }
     requires laws { AreStepRules sig.now rules.now }
     ensures { IfOk result (λ o. IfSome o
-        (IsBegun sig.now (equations_of rules.now.equations) t.now bounds.steps)) }
+        (IsReachedFrom sig.now (equations_of rules.now.equations) t.now bounds.steps)) }
 {
     let pass = Pass {
         alloc,
@@ -47,7 +41,7 @@ fn quick(
         Some(one) => {
             let plain = one.value.to_plain(alloc)?;
             let form = flatten(alloc, sig, &plain)?;
-            Ok(Some(Begun {
+            Ok(Some(Reached {
                 form,
                 left: one.left,
             }))
@@ -56,7 +50,8 @@ fn quick(
     }
 }
 
-// Where turns from the root begin: what the pass comes to, or what one step leads to.
+// Where turns from the root begin: what a pass comes to, the first for free operators alone, the second modulo axioms;
+// where neither comes to an end, what one step leads to.
 pub(crate) fn begin(
     alloc: Global,
     sig: &Signature,
@@ -64,12 +59,12 @@ pub(crate) fn begin(
     t: &Flat,
     next: Flat,
     bounds: Bounds,
-) -> Result<Begun, NoMemory>
+) -> Result<Reached, NoMemory>
     requires term { Fits sig.now t.now }
     requires rules { AreUsable sig.now rules.now }
     requires next { IsNext sig.now (equations_of rules.now.equations) t.now next }
     requires some { 0 < bounds.steps }
-    ensures { IfOk result (IsBegun sig.now (equations_of rules.now.equations) t.now bounds.steps) }
+    ensures { IfOk result (IsReachedFrom sig.now (equations_of rules.now.equations) t.now bounds.steps) }
 {
     sig.recall_good();
     sig.recall_completed();
@@ -81,7 +76,17 @@ pub(crate) fn begin(
     if let Some(begun) = made {
         return Ok(begun);
     }
-    Ok(Begun {
+    let pass = Pass {
+        alloc,
+        sig,
+        rules,
+        size: bounds.size,
+    };
+    let reached = inside(&pass, DEPTH, t, bounds.steps)?;
+    if let Some(begun) = reached {
+        return Ok(begun);
+    }
+    Ok(Reached {
         form: next,
         left: bounds.steps - 1,
     })

@@ -1,0 +1,82 @@
+-- One argument more, the operator over them, and one step at the root more.
+use Rattle.std.proofs.Common.{◌-◌, refl, sym, ◌∙◌, subst, arith}
+use Rattle.std.proofs.lemmas.Option.{IfSome_then}
+use Rattle.fvn_flat.specs.Fits.{AllFit}
+use Rattle.fvn_theory.specs.Equations.{equations_of}
+use Rattle.fvn_rewrite.specs.inner.Making.{IsReachedFrom}
+use Rattle.fvn_rewrite.specs.inner.Inside.{AreReachedFrom}
+use Rattle.fvn_rewrite.specs.inner.Walking.{IsNext}
+use Rattle.fvn_rewrite.proofs.InsideAxioms.{reached_here, none_reached, all_reached, reached_then, reached_step, more_reached, reached_taken, over_reached}
+use Rattle.fvn_rewrite.proofs.inside.+inside.Goals as goal
+
+pub inside_all-loop-t-init : goal.inside_all-loop-t-init
+inside_all-loop-t-init t c = none_reached c.args.pass.now.sig.now (equations_of c.args.pass.now.rules.now.equations) c.args.ts.now c.args.left c.new-forms.result.items c.new-forms.ensures.items
+
+pub inside_all-loop-t-preserved : goal.inside_all-loop-t-preserved
+inside_all-loop-t-preserved t c =
+    more_reached c.args.pass.now.sig.now c.args.pass.now.rules.now c.requires.laws c.args.ts.now c.loop-t.t-index c.args.left c.loop-t.forms.items c.push.new.self.items c.loop-t.spare c.t-item.result c.in-Some.reached c.loop-t-test.true c.t-item.is c.in_ok-push-in-Some.ensures.items c.loop-t.invariant
+    (rw c.in-Some.is at c.in_ok-next.ensures)
+
+pub inside_all-returns : goal.inside_all-returns
+inside_all-returns t c =
+    all_reached c.args.pass.now.sig.now (equations_of c.args.pass.now.rules.now.equations) c.args.ts.now c.loop-t.t-index c.args.left record { forms = c.loop-t.forms; left = c.loop-t.spare } c.loop-t-test.false c.loop-t.invariant
+
+pub arguments_first-inside_all-requires : goal.arguments_first-inside_all-requires
+arguments_first-inside_all-requires t c = (omega arith, (c.requires.laws, (c.requires.rules, c.args-in-Some.ensures.fit c.args.pass.now.sig.now c.requires.laws.good.fits c.requires.form)))
+
+pub arguments_first-app-requires : goal.arguments_first-app-requires
+arguments_first-app-requires t c =
+    let d = c.args.pass.now.sig.now in
+    let E = equations_of c.args.pass.now.rules.now.equations in
+    let all : AreReachedFrom d E c.args-in-Some.result.now c.args.left c.in-Some-all.reached = rw c.in-Some-all.is at c.in_ok-all-in-Some.ensures in record {
+      fit = all.fit;
+      takes = reached_taken d c.args.pass.now.rules.now c.requires.laws c.args.t.now c.in-Some.f (sym c.head.ensures ∙ c.in-Some.is) c.requires.form c.args.left c.args-in-Some.result.now c.args-in-Some.ensures.exact c.in-Some-all.reached all;
+    }
+
+pub arguments_first-returns-in_ok-form-in-Some : goal.arguments_first-returns-in_ok-form-in-Some
+arguments_first-returns-in_ok-form-in-Some t c =
+    let d = c.args.pass.now.sig.now in
+    let E = equations_of c.args.pass.now.rules.now.equations in
+    let all : AreReachedFrom d E c.args-in-Some.result.now c.args.left c.in-Some-all.reached = rw c.in-Some-all.is at c.in_ok-all-in-Some.ensures in
+    over_reached d c.args.pass.now.rules.now c.requires.laws c.args.t.now c.in-Some.f (sym c.head.ensures ∙ c.in-Some.is) c.requires.form c.args.left c.args-in-Some.result.now c.args-in-Some.ensures.exact c.in-Some-all.reached all
+    c.in_ok-form-in-Some.form c.in_ok-form-in-Some.ensures.equal c.in_ok-form-in-Some.ensures.fits
+
+pub arguments_first-returns-in_ok-form-in-None : goal.arguments_first-returns-in_ok-form-in-None
+arguments_first-returns-in_ok-form-in-None t c =
+    reached_here c.args.pass.now.sig.now (equations_of c.args.pass.now.rules.now.equations) c.args.t.now c.args.left c.in_ok-form-in-None.form c.in_ok-form-in-None.ensures c.requires.form
+
+pub settle-loop-large-init : goal.settle-loop-large-init
+settle-loop-large-init t c = reached_here c.args.pass.now.sig.now (equations_of c.args.pass.now.rules.now.equations) c.args.whole c.args.left c.args.whole refl c.requires.form
+
+pub settle-arguments_first-requires : goal.settle-arguments_first-requires
+settle-arguments_first-requires t c =
+    let next : IsNext c.args.pass.now.sig.now (equations_of c.args.pass.now.rules.now.equations) c.loop-large.now c.in-Some.next = rw c.in-Some.is at c.in_ok-found.ensures in (omega arith, (c.requires.laws, (c.requires.rules, next.fits)))
+
+pub settle-loop-large-preserved : goal.settle-loop-large-preserved
+settle-loop-large-preserved t c =
+    let d = c.args.pass.now.sig.now in
+    let E = equations_of c.args.pass.now.rules.now.equations in
+    let next : IsNext d E c.loop-large.now c.in-Some.next = rw c.in-Some.is at c.in_ok-found.ensures in
+    let over : IsReachedFrom d E c.in-Some.next (c.loop-large.spare - 1) c.in-Some-over.reached = rw c.in-Some-over.is at c.in_ok-over.ensures in
+    reached_then d c.args.pass.now.rules.now c.requires.laws c.args.whole c.args.left c.in-Some.next (c.loop-large.spare - 1) c.in-Some-over.reached
+    (reached_step d c.args.pass.now.rules.now c.requires.laws c.args.whole c.args.left c.loop-large.now c.loop-large.spare c.in-Some.next (omega (arith, c.if-spent.false)) c.loop-large.invariant next) over
+
+pub settle-loop-large-smaller : goal.settle-loop-large-smaller
+settle-loop-large-smaller t c =
+    let d = c.args.pass.now.sig.now in
+    let E = equations_of c.args.pass.now.rules.now.equations in
+    let over : IsReachedFrom d E c.in-Some.next (c.loop-large.spare - 1) c.in-Some-over.reached = rw c.in-Some-over.is at c.in_ok-over.ensures in
+    omega (arith, over.spent, c.if-spent.false)
+
+pub inside-settle-requires : goal.inside-settle-requires
+inside-settle-requires t c =
+    let d = c.args.pass.now.sig.now in
+    let E = equations_of c.args.pass.now.rules.now.equations in
+    let over : IsReachedFrom d E c.args.t.now c.args.left c.in-Some.one = rw c.in-Some.is at c.in_ok-over.ensures in (omega arith, (c.requires.laws, (c.requires.rules, over.reached.fits)))
+
+pub inside-returns-in_ok-reached-in-Some : goal.inside-returns-in_ok-reached-in-Some
+inside-returns-in_ok-reached-in-Some t c =
+    let d = c.args.pass.now.sig.now in
+    let E = equations_of c.args.pass.now.rules.now.equations in
+    let over : IsReachedFrom d E c.args.t.now c.args.left c.in-Some.one = rw c.in-Some.is at c.in_ok-over.ensures in
+    IfSome_then c.in_ok-reached-in-Some.reached c.in_ok-reached-in-Some.ensures (λ r j. reached_then d c.args.pass.now.rules.now c.requires.laws c.args.t.now c.args.left c.in-Some.one.form c.in-Some.one.left r over j)
