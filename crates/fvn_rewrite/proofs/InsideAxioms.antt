@@ -81,7 +81,7 @@ module _ (d : Declarations) (lists : RuleLists) (laws : AreStepRules d lists) wh
 
   -- one argument more
   module _ (ts : List FlatTerm) (i n : ℕ) (us vs : List FlatTerm) (m : ℕ) (t : FlatTerm) (r : Reached) (within : i < length ts) (is : t ≡ get_or ts i t) (longer : vs ≡ us ++ r.form ∷ []) where
-    rest : List FlatTerm
+    abbrev rest : List FlatTerm
     rest = drop (i + 1) ts
 
     begun : drop i ts ≡ t ∷ rest

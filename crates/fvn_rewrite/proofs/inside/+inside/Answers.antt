@@ -33,39 +33,55 @@ arguments_first-app-requires t c =
       takes = reached_taken d c.args.pass.now.rules.now c.requires.laws c.args.t.now c.in-Some.f (sym c.head.ensures ∙ c.in-Some.is) c.requires.form c.args.left c.args-in-Some.result.now c.args-in-Some.ensures.exact c.in-Some-all.reached all;
     }
 
-pub arguments_first-returns-in_ok-form-in-Some : goal.arguments_first-returns-in_ok-form-in-Some
-arguments_first-returns-in_ok-form-in-Some t c =
+pub arguments_first-returns-in_ok-form-in-Some-all : goal.arguments_first-returns-in_ok-form-in-Some-all
+arguments_first-returns-in_ok-form-in-Some-all t c =
     let d = c.args.pass.now.sig.now in
     let E = equations_of c.args.pass.now.rules.now.equations in
     let all : AreReachedFrom d E c.args-in-Some.result.now c.args.left c.in-Some-all.reached = rw c.in-Some-all.is at c.in_ok-all-in-Some.ensures in
     over_reached d c.args.pass.now.rules.now c.requires.laws c.args.t.now c.in-Some.f (sym c.head.ensures ∙ c.in-Some.is) c.requires.form c.args.left c.args-in-Some.result.now c.args-in-Some.ensures.exact c.in-Some-all.reached all
-    c.in_ok-form-in-Some.form c.in_ok-form-in-Some.ensures.equal c.in_ok-form-in-Some.ensures.fits
+    c.in_ok-form-in-Some-all.form c.in_ok-form-in-Some-all.ensures.equal c.in_ok-form-in-Some-all.ensures.fits
 
 pub arguments_first-returns-in_ok-form-in-None : goal.arguments_first-returns-in_ok-form-in-None
 arguments_first-returns-in_ok-form-in-None t c =
     reached_here c.args.pass.now.sig.now (equations_of c.args.pass.now.rules.now.equations) c.args.t.now c.args.left c.in_ok-form-in-None.form c.in_ok-form-in-None.ensures c.requires.form
 
-pub settle-loop-large-init : goal.settle-loop-large-init
-settle-loop-large-init t c = reached_here c.args.pass.now.sig.now (equations_of c.args.pass.now.rules.now.equations) c.args.whole c.args.left c.args.whole refl c.requires.form
+pub settle-loop-now-init : goal.settle-loop-now-init
+settle-loop-now-init t c = reached_here c.args.pass.now.sig.now (equations_of c.args.pass.now.rules.now.equations) c.args.whole c.args.left c.args.whole refl c.requires.form
 
 pub settle-arguments_first-requires : goal.settle-arguments_first-requires
 settle-arguments_first-requires t c =
-    let next : IsNext c.args.pass.now.sig.now (equations_of c.args.pass.now.rules.now.equations) c.loop-large.now c.in-Some.next = rw c.in-Some.is at c.in_ok-found.ensures in (omega arith, (c.requires.laws, (c.requires.rules, next.fits)))
+    let next : IsNext c.args.pass.now.sig.now (equations_of c.args.pass.now.rules.now.equations) c.loop-now.now c.in-Some.next = rw c.in-Some.is at c.in_ok-found.ensures in (omega arith, (c.requires.laws, (c.requires.rules, next.fits)))
 
-pub settle-loop-large-preserved : goal.settle-loop-large-preserved
-settle-loop-large-preserved t c =
+pub settle-loop-now-preserved : goal.settle-loop-now-preserved
+settle-loop-now-preserved t c =
     let d = c.args.pass.now.sig.now in
     let E = equations_of c.args.pass.now.rules.now.equations in
-    let next : IsNext d E c.loop-large.now c.in-Some.next = rw c.in-Some.is at c.in_ok-found.ensures in
-    let over : IsReachedFrom d E c.in-Some.next (c.loop-large.spare - 1) c.in-Some-over.reached = rw c.in-Some-over.is at c.in_ok-over.ensures in
-    reached_then d c.args.pass.now.rules.now c.requires.laws c.args.whole c.args.left c.in-Some.next (c.loop-large.spare - 1) c.in-Some-over.reached
-    (reached_step d c.args.pass.now.rules.now c.requires.laws c.args.whole c.args.left c.loop-large.now c.loop-large.spare c.in-Some.next (omega (arith, c.if-spent.false)) c.loop-large.invariant next) over
+    let next : IsNext d E c.loop-now.now c.in-Some.next = rw c.in-Some.is at c.in_ok-found.ensures in
+    let over : IsReachedFrom d E c.in-Some.next (c.loop-now.spare - 1) c.in-Some-over.reached = rw c.in-Some-over.is at c.in_ok-over.ensures in
+    reached_then d c.args.pass.now.rules.now c.requires.laws c.args.whole c.args.left c.in-Some.next (c.loop-now.spare - 1) c.in-Some-over.reached
+    (reached_step d c.args.pass.now.rules.now c.requires.laws c.args.whole c.args.left c.loop-now.now c.loop-now.spare c.in-Some.next (omega (arith, c.if-spent.false)) c.loop-now.invariant next) over
 
-pub settle-loop-large-smaller : goal.settle-loop-large-smaller
-settle-loop-large-smaller t c =
+pub settle-loop-now-preserved-in-Some-over : goal.settle-loop-now-preserved-in-Some-over
+settle-loop-now-preserved-in-Some-over t c =
     let d = c.args.pass.now.sig.now in
     let E = equations_of c.args.pass.now.rules.now.equations in
-    let over : IsReachedFrom d E c.in-Some.next (c.loop-large.spare - 1) c.in-Some-over.reached = rw c.in-Some-over.is at c.in_ok-over.ensures in
+    let next : IsNext d E c.loop-now.now c.in-Some.next = rw c.in-Some.is at c.in_ok-found.ensures in
+    let over : IsReachedFrom d E c.in-Some.next (c.loop-now.spare - 1) c.in-Some-over.reached = rw c.in-Some-over.is at c.in_ok-over.ensures in
+    reached_then d c.args.pass.now.rules.now c.requires.laws c.args.whole c.args.left c.in-Some.next (c.loop-now.spare - 1) c.in-Some-over.reached
+    (reached_step d c.args.pass.now.rules.now c.requires.laws c.args.whole c.args.left c.loop-now.now c.loop-now.spare c.in-Some.next (omega (arith, c.if-spent.false)) c.loop-now.invariant next) over
+
+pub settle-loop-now-smaller : goal.settle-loop-now-smaller
+settle-loop-now-smaller t c =
+    let d = c.args.pass.now.sig.now in
+    let E = equations_of c.args.pass.now.rules.now.equations in
+    let over : IsReachedFrom d E c.in-Some.next (c.loop-now.spare - 1) c.in-Some-over.reached = rw c.in-Some-over.is at c.in_ok-over.ensures in
+    omega (arith, over.spent, c.if-spent.false)
+
+pub settle-loop-now-smaller-in-Some-over : goal.settle-loop-now-smaller-in-Some-over
+settle-loop-now-smaller-in-Some-over t c =
+    let d = c.args.pass.now.sig.now in
+    let E = equations_of c.args.pass.now.rules.now.equations in
+    let over : IsReachedFrom d E c.in-Some.next (c.loop-now.spare - 1) c.in-Some-over.reached = rw c.in-Some-over.is at c.in_ok-over.ensures in
     omega (arith, over.spent, c.if-spent.false)
 
 pub inside-settle-requires : goal.inside-settle-requires
@@ -80,3 +96,9 @@ inside-returns-in_ok-reached-in-Some t c =
     let E = equations_of c.args.pass.now.rules.now.equations in
     let over : IsReachedFrom d E c.args.t.now c.args.left c.in-Some.one = rw c.in-Some.is at c.in_ok-over.ensures in
     IfSome_then c.in_ok-reached-in-Some.reached c.in_ok-reached-in-Some.ensures (λ r j. reached_then d c.args.pass.now.rules.now c.requires.laws c.args.t.now c.args.left c.in-Some.one.form c.in-Some.one.left r over j)
+
+pub settle-at_root-requires-clause-form : goal.settle-at_root-requires-clause-form
+settle-at_root-requires-clause-form t c = c.loop-now.invariant.reached.fits
+
+pub settle-returns-in_default : goal.settle-returns-in_default
+settle-returns-in_default t c = c.loop-now.invariant

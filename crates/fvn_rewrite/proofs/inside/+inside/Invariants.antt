@@ -20,8 +20,8 @@ decreases-inside l = 4 * l.depth + 3
 abbrev pub invariant-inside_all-loop-t : goal.invariant-inside_all-loop-t
 invariant-inside_all-loop-t l = ArePartlyReached l.pass.sig.now (equations_of l.pass.rules.now.equations) l.ts l.t-index l.fn.left l.forms.items l.spare
 
-abbrev pub decreases-settle-loop-large : goal.decreases-settle-loop-large
-decreases-settle-loop-large l = l.spare
+abbrev pub decreases-settle-loop-now : goal.decreases-settle-loop-now
+decreases-settle-loop-now l = l.spare
 
-abbrev pub invariant-settle-loop-large : goal.invariant-settle-loop-large
-invariant-settle-loop-large l = IsReachedFrom l.pass.sig.now (equations_of l.pass.rules.now.equations) l.fn.whole l.fn.left record { form = l.now; left = l.spare }
+abbrev pub invariant-settle-loop-now : goal.invariant-settle-loop-now
+invariant-settle-loop-now l = IsReachedFrom l.pass.sig.now (equations_of l.pass.rules.now.equations) l.fn.whole l.fn.left record { form = l.now; left = l.spare }
