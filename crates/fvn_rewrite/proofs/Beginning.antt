@@ -13,7 +13,7 @@ use Rattle.fvn_rewrite_rules.specs.Given.{RuleLists}
 use Rattle.fvn_rewrite_laws.specs.Normalised.{IsReached}
 use Rattle.fvn_rewrite.specs.Usable.{AreUsable}
 use Rattle.fvn_rewrite.specs.inner.Making.{AreStepRules, IsReachedFrom}
-use Rattle.fvn_rewrite.specs.declared.inside.Reached.{Reached}
+use Rattle.fvn_rewrite.specs.declared.quick.Begun.{Begun}
 use Rattle.fvn_rewrite.specs.inner.Walking.{IsNext}
 use Rattle.fvn_rewrite.proofs.Reaching.{reached_itself, reached_more}
 use Rattle.fvn_rewrite.proofs.Roots.{have_one_kind, is_rule, sides_fit}
@@ -30,7 +30,7 @@ lawful d lists usable good completed rules rewriting sequences kinds = record {
 }
 
 -- what one step leads to, with one step less
-pub begun_next : (d : Declarations) (equations : Equations) → RewritingIsLawful → (t next : FlatTerm) (steps : ℕ) (begun : Reached) → Fits d t → IsNext d equations t next → begun.form ≡ next → begun.left + 1 ≡ steps → IsReachedFrom d equations t steps begun
+pub begun_next : (d : Declarations) (equations : Equations) → RewritingIsLawful → (t next : FlatTerm) (steps : ℕ) (begun : Begun) → Fits d t → IsNext d equations t next → begun.form ≡ next → begun.left + 1 ≡ steps → IsReachedFrom d equations t steps begun.form begun.left
 begun_next d equations laws t next steps begun fits step is left = record {
   count = 0 + 1;
   spent = omega (arith, left);

@@ -33,15 +33,15 @@ module _ (d : Declarations) (equations : Equations) where
   root_next t (Some u) h = h
 
   -- steps between the terms lead from the form to the one that is reached
-  reached_by : (t : FlatTerm) (n : ℕ) (u : FlatTerm) (m : ℕ) → LeadsTo d equations (plain t) n (plain u) m → Fits d u → IsReachedFrom d equations t n (record { form = u; left = m })
+  reached_by : (t : FlatTerm) (n : ℕ) (u : FlatTerm) (m : ℕ) → LeadsTo d equations (plain t) n (plain u) m → Fits d u → IsReachedFrom d equations t n u m
   reached_by t n u m l fits = record { count = l.count; spent = l.spent; reached = record { sequence = l.sequence; fits = fits } }
 
-  leads_to : (t : FlatTerm) (n : ℕ) (r : Reached) → IsReachedFrom d equations t n r → LeadsTo d equations (plain t) n (plain r.form) r.left
-  leads_to t n r h = record { count = h.count; spent = h.spent; sequence = h.reached.sequence }
+  leads_to : (t : FlatTerm) (n : ℕ) (u : FlatTerm) (m : ℕ) → IsReachedFrom d equations t n u m → LeadsTo d equations (plain t) n (plain u) m
+  leads_to t n u m h = record { count = h.count; spent = h.spent; sequence = h.reached.sequence }
 
   -- a form reaches itself
-  pub reached_here : (t : FlatTerm) (n : ℕ) (u : FlatTerm) → u ≡ t → Fits d t → IsReachedFrom d equations t n (record { form = u; left = n })
-  reached_here t n u is fits = subst (λ v. IsReachedFrom d equations t n (record { form = v; left = n })) (sym is) (reached_by t n t n (leads_itself d equations (plain t) n) fits)
+  pub reached_here : (t : FlatTerm) (n : ℕ) (u : FlatTerm) → u ≡ t → Fits d t → IsReachedFrom d equations t n u n
+  reached_here t n u is fits = subst (λ v. IsReachedFrom d equations t n v n) (sym is) (reached_by t n t n (leads_itself d equations (plain t) n) fits)
 
   -- arguments of which some are reached
   pub record ArePartlyReached (ts : List FlatTerm) (i n : ℕ) (us : List FlatTerm) (m : ℕ) : Type 0 where
@@ -66,18 +66,18 @@ module _ (d : Declarations) (equations : Equations) where
 
 module _ (d : Declarations) (lists : RuleLists) (laws : AreStepRules d lists) where
   -- one after the other
-  pub reached_then : (t : FlatTerm) (n : ℕ) (u : FlatTerm) (m : ℕ) (r : Reached) → IsReachedFrom d (equations_of lists.equations) t n (record { form = u; left = m }) → IsReachedFrom d (equations_of lists.equations) u m r → IsReachedFrom d (equations_of lists.equations) t n r
-  reached_then t n u m r h j = record {
+  pub reached_then : (t : FlatTerm) (n : ℕ) (u : FlatTerm) (m : ℕ) (v : FlatTerm) (k : ℕ) → IsReachedFrom d (equations_of lists.equations) t n u m → IsReachedFrom d (equations_of lists.equations) u m v k → IsReachedFrom d (equations_of lists.equations) t n v k
+  reached_then t n u m v k h j = record {
     count = h.count + j.count;
     spent = omega (arith, h.spent, j.spent);
-    reached = record { sequence = laws.rewriting.joined h.count j.count (plain t) (plain u) (plain r.form) h.reached.sequence j.reached.sequence; fits = j.reached.fits };
+    reached = record { sequence = laws.rewriting.joined h.count j.count (plain t) (plain u) (plain v) h.reached.sequence j.reached.sequence; fits = j.reached.fits };
   }
 
-  -- one step more
-  pub reached_step : (t : FlatTerm) (n : ℕ) (u : FlatTerm) (m : ℕ) (v : FlatTerm) → 1 ≤ m → IsReachedFrom d (equations_of lists.equations) t n (record { form = u; left = m }) → IsNext d (equations_of lists.equations) u v → IsReachedFrom d (equations_of lists.equations) t n (record { form = v; left = m - 1 })
-  reached_step t n u m v some h s =
+  -- one step more, and what that leads to
+  pub reached_step : (t : FlatTerm) (n : ℕ) (u : FlatTerm) (m : ℕ) (v w : FlatTerm) (k : ℕ) → 1 ≤ m → IsReachedFrom d (equations_of lists.equations) t n u m → IsNext d (equations_of lists.equations) u v → IsReachedFrom d (equations_of lists.equations) v (m - 1) w k → IsReachedFrom d (equations_of lists.equations) t n w k
+  reached_step t n u m v w k some h s j =
       let E = equations_of lists.equations in
-      reached_by d E t n v (m - 1) (leads_joined d E laws.rewriting (plain t) (plain u) (plain v) n m (m - 1) (leads_to d E t n (record { form = u; left = m }) h) (leads_step d E (plain u) (plain v) (plain v) m (m - 1) some s.steps (leads_itself d E (plain v) (m - 1)))) s.fits
+      reached_then t n u m w k h (reached_by d E u m w k (leads_step d E (plain u) (plain v) (plain w) m k some s.steps (leads_to d E v (m - 1) w k j)) j.reached.fits)
 
   -- one argument more
   module _ (ts : List FlatTerm) (i n : ℕ) (us vs : List FlatTerm) (m : ℕ) (t : FlatTerm) (r : Reached) (within : i < length ts) (is : t ≡ get_or ts i t) (longer : vs ≡ us ++ r.form ∷ []) where
@@ -90,7 +90,7 @@ module _ (d : Declarations) (lists : RuleLists) (laws : AreStepRules d lists) wh
     ended : us ++ r.form ∷ rest ≡ vs ++ rest
     ended = sym (ap (λ l. l ++ rest) longer ∙ last_moved us r.form rest)
 
-    module _ (h : ArePartlyReached d (equations_of lists.equations) ts i n us m) (j : IsReachedFrom d (equations_of lists.equations) t m r) where
+    module _ (h : ArePartlyReached d (equations_of lists.equations) ts i n us m) (j : IsReachedFrom d (equations_of lists.equations) t m r.form r.left) where
       more_taken : (f : OpId) → Takes d f ts → Takes d f (vs ++ rest)
       more_taken f k = subst (Takes d f) ended (taken_replaced d t r.form (laws.kinds.sequences j.count (plain t) (plain r.form) j.reached.sequence) us rest f (subst (λ l. Takes d f (us ++ l)) begun (h.takes f k)))
 
@@ -118,7 +118,7 @@ module _ (d : Declarations) (lists : RuleLists) (laws : AreStepRules d lists) wh
     pub reached_taken : Takes d f all.forms.items
     reached_taken = h.takes f taken
 
-    pub over_reached : (whole : FlatTerm) → BEqual d (plain_over d f all.forms.items) (plain whole) → Fits d whole → IsReachedFrom d (equations_of lists.equations) t n (record { form = whole; left = all.left })
+    pub over_reached : (whole : FlatTerm) → BEqual d (plain_over d f all.forms.items) (plain whole) → Fits d whole → IsReachedFrom d (equations_of lists.equations) t n whole all.left
     over_reached whole equal whole_fits =
         let E = equations_of lists.equations in
         let l = h.leads f taken in

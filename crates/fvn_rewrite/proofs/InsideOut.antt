@@ -29,7 +29,7 @@ use Rattle.fvn_rewrite_rules.specs.Given.{RuleLists, headed}
 use Rattle.fvn_rewrite.specs.declared.fitting.Found.{Found}
 use Rattle.fvn_rewrite.specs.declared.making.Made.{Made}
 use Rattle.fvn_rewrite.specs.declared.making.MadeAll.{MadeAll}
-use Rattle.fvn_rewrite.specs.declared.inside.Reached.{Reached}
+use Rattle.fvn_rewrite.specs.declared.quick.Begun.{Begun}
 use Rattle.fvn_rewrite.specs.inner.Trying.{SidesFit}
 use Rattle.fvn_rewrite.specs.inner.SortedTerms.{SortedTerm, sapp, spack, sort_of, term_of, terms_of, IsSorted, AreSorted, IsValue}
 use Rattle.fvn_rewrite.specs.inner.Fitting.{SortedBindings, sorted_bound, sorted_or, standing_for, IsFreeHead, AreBindings, IsFound}
@@ -204,8 +204,8 @@ module _ (d : Declarations) (lists : RuleLists) (laws : AreStepRules d lists) wh
       settled_over g all j = record { leads = leads_on (app g (terms_of all.values.items)) all.left j.leads; sorted = j.sorted; free = j.free }
 
   -- what the whole form comes to
-  pub begun_here : (t : FlatTerm) (steps : ℕ) (made : Made) (p : Plain) (begun : Reached) → IsMade d (equations_of lists.equations) (apply (standing_for []) (plain t)) steps made → term p ≡ term_of made.value → BEqual d (term p) (plain begun.form) → Fits d begun.form → begun.left ≡ made.left →
-      IsReachedFrom d (equations_of lists.equations) t steps begun
+  pub begun_here : (t : FlatTerm) (steps : ℕ) (made : Made) (p : Plain) (begun : Begun) → IsMade d (equations_of lists.equations) (apply (standing_for []) (plain t)) steps made → term p ≡ term_of made.value → BEqual d (term p) (plain begun.form) → Fits d begun.form → begun.left ≡ made.left →
+      IsReachedFrom d (equations_of lists.equations) t steps begun.form begun.left
   begun_here t steps made p begun m is equal fits left = record {
     count = m.leads.count;
     spent = omega (arith, m.leads.spent, left);

@@ -12,18 +12,20 @@ use crate::root::root_step;
 use fvn_flat::Flat;
 use fvn_terms::NoMemory;
 
-// A form to which steps lead, and how many steps are left.
+// A form to which steps lead, how many steps are left, and how many symbols were counted for the limit.
 #[derive(Drop)]
 pub(crate) struct Reached {
     pub(crate) form: Flat,
     pub(crate) left: u64,
+    pub(crate) symbols: u64,
 }
 
-// Forms to which steps lead, and how many steps are left.
+// Forms to which steps lead, how many steps are left, and how many symbols were counted for an operator over them.
 #[derive(Drop)]
 pub(crate) struct ReachedAll {
     pub(crate) forms: Vec<Flat>,
     pub(crate) left: u64,
+    pub(crate) symbols: u64,
 }
 
 // What one step at the root leads to.
@@ -62,17 +64,26 @@ fn inside_all(
     }
     let mut forms = Vec::new(pass.alloc);
     let mut spare = left;
+    let mut symbols: u64 = 1;
     for t in ts {
         let next = inside(pass, depth - 1, t, spare)?;
         match next {
             Some(reached) => {
                 spare = reached.left;
+                symbols = symbols.saturating_add(reached.symbols);
+                if symbols > pass.size {
+                    return Ok(None);
+                }
                 forms.push(reached.form)?;
             }
             None => return Ok(None),
         }
     }
-    Ok(Some(ReachedAll { forms, left: spare }))
+    Ok(Some(ReachedAll {
+        forms,
+        left: spare,
+        symbols,
+    }))
 }
 
 // The form, its arguments brought to normal forms.
@@ -87,13 +98,18 @@ fn arguments_first(
     requires rules { AreUsable pass.now.sig.now pass.now.rules.now }
     requires form { Fits pass.now.sig.now t.now }
     ensures { IfOk result (λ o.
-        IfSome o (IsReachedFrom pass.now.sig.now (equations_of pass.now.rules.now.equations)
-        t.now left)) }
+        IfSome o (λ (r : Reached).
+        IsReachedFrom pass.now.sig.now (equations_of pass.now.rules.now.equations)
+        t.now left r.form r.left)) }
 {
     match t.head() {
         None => {
             let form = t.copy(pass.alloc)?;
-            Ok(Some(Reached { form, left }))
+            Ok(Some(Reached {
+                form,
+                left,
+                symbols: 1,
+            }))
         }
         Some(f) => {
             let all = inside_all(pass, depth, t.args(), left)?;
@@ -103,6 +119,7 @@ fn arguments_first(
                     Ok(Some(Reached {
                         form,
                         left: reached.left,
+                        symbols: reached.symbols,
                     }))
                 }
                 None => Ok(None),
@@ -113,37 +130,29 @@ fn arguments_first(
 
 // The normal form of a form whose arguments are normal forms, by one step at its root after another.
 #[cycle(inside)]
-fn settle(pass: &Pass<'_>, depth: u64, whole: Flat, left: u64) -> Result<Option<Reached>, NoMemory>
+fn settle(pass: &Pass<'_>, depth: u64, start: Reached) -> Result<Option<Reached>, NoMemory>
     requires laws { AreStepRules pass.now.sig.now pass.now.rules.now }
     requires rules { AreUsable pass.now.sig.now pass.now.rules.now }
-    requires form { Fits pass.now.sig.now whole }
+    requires form { Fits pass.now.sig.now start.form }
     ensures { IfOk result (λ o.
-        IfSome o (IsReachedFrom pass.now.sig.now (equations_of pass.now.rules.now.equations)
-        whole left)) }
+        IfSome o (λ (r : Reached).
+        IsReachedFrom pass.now.sig.now (equations_of pass.now.rules.now.equations)
+        start.form start.left r.form r.left)) }
 {
-    let mut now = whole;
-    let mut spare = left;
+    let mut now = start;
     loop {
-        let large = now.size() > pass.size;
-        if large {
-            return Ok(None);
-        }
-        let found = at_root(pass, &now)?;
+        let found = at_root(pass, &now.form)?;
         let Some(next) = found else {
-            return Ok(Some(Reached {
-                form: now,
-                left: spare,
-            }));
+            return Ok(Some(now));
         };
-        let spent = spare == 0;
+        let spent = now.left == 0;
         if spent {
             return Ok(None);
         }
-        let over = arguments_first(pass, depth, &next, spare - 1)?;
+        let over = arguments_first(pass, depth, &next, now.left - 1)?;
         match over {
             Some(reached) => {
-                now = reached.form;
-                spare = reached.left;
+                now = reached;
             }
             None => return Ok(None),
         }
@@ -162,13 +171,14 @@ pub(crate) fn inside(
     requires rules { AreUsable pass.now.sig.now pass.now.rules.now }
     requires form { Fits pass.now.sig.now t.now }
     ensures { IfOk result (λ o.
-        IfSome o (IsReachedFrom pass.now.sig.now (equations_of pass.now.rules.now.equations)
-        t.now left)) }
+        IfSome o (λ (r : Reached).
+        IsReachedFrom pass.now.sig.now (equations_of pass.now.rules.now.equations)
+        t.now left r.form r.left)) }
 {
     let over = arguments_first(pass, depth, t, left)?;
     match over {
         Some(one) => {
-            let reached = settle(pass, depth, one.form, one.left)?;
+            let reached = settle(pass, depth, one)?;
             Ok(reached)
         }
         None => Ok(None),

@@ -6,7 +6,7 @@ ghost use Rattle.fvn_rewrite.specs.Usable.{AreUsable};
 ghost use Rattle.fvn_rewrite.specs.inner.Making.{AreStepRules, IsReachedFrom};
 ghost use Rattle.fvn_rewrite.specs.inner.Walking.{IsNext};
 
-use crate::inside::{Reached, inside};
+use crate::inside::inside;
 use crate::making::{Pass, make};
 use fvn_base::limits::DEPTH;
 use fvn_flat::{Flat, flatten};
@@ -17,6 +17,13 @@ use fvn_terms::{NoMemory, rewriting_is_lawful};
 use fvn_theory::Bounds;
 use std::alloc::Global;
 
+// A form to which steps lead, and how many steps are left.
+#[derive(Drop)]
+pub(crate) struct Begun {
+    pub(crate) form: Flat,
+    pub(crate) left: u64,
+}
+
 // What the pass comes to; nothing where a limit is met, or an operator has axioms.
 fn quick(
     alloc: Global,
@@ -24,11 +31,12 @@ fn quick(
     rules: &Rules,
     t: &Flat,
     bounds: Bounds,
-) -> Result<Option<Reached>, NoMemory>
+) -> Result<Option<Begun>, NoMemory>
     requires term { Fits sig.now t.now }
     requires laws { AreStepRules sig.now rules.now }
     ensures { IfOk result (λ o. IfSome o
-        (IsReachedFrom sig.now (equations_of rules.now.equations) t.now bounds.steps)) }
+        (λ (b : Begun). IsReachedFrom sig.now (equations_of rules.now.equations)
+        t.now bounds.steps b.form b.left)) }
 {
     let pass = Pass {
         alloc,
@@ -41,7 +49,7 @@ fn quick(
         Some(one) => {
             let plain = one.value.to_plain(alloc)?;
             let form = flatten(alloc, sig, &plain)?;
-            Ok(Some(Reached {
+            Ok(Some(Begun {
                 form,
                 left: one.left,
             }))
@@ -59,12 +67,13 @@ pub(crate) fn begin(
     t: &Flat,
     next: Flat,
     bounds: Bounds,
-) -> Result<Reached, NoMemory>
+) -> Result<Begun, NoMemory>
     requires term { Fits sig.now t.now }
     requires rules { AreUsable sig.now rules.now }
     requires next { IsNext sig.now (equations_of rules.now.equations) t.now next }
     requires some { 0 < bounds.steps }
-    ensures { IfOk result (IsReachedFrom sig.now (equations_of rules.now.equations) t.now bounds.steps) }
+    ensures { IfOk result (λ b.
+        IsReachedFrom sig.now (equations_of rules.now.equations) t.now bounds.steps b.form b.left) }
 {
     sig.recall_good();
     sig.recall_completed();
@@ -83,10 +92,13 @@ pub(crate) fn begin(
         size: bounds.size,
     };
     let reached = inside(&pass, DEPTH, t, bounds.steps)?;
-    if let Some(begun) = reached {
-        return Ok(begun);
+    if let Some(one) = reached {
+        return Ok(Begun {
+            form: one.form,
+            left: one.left,
+        });
     }
-    Ok(Reached {
+    Ok(Begun {
         form: next,
         left: bounds.steps - 1,
     })

@@ -21,7 +21,6 @@ use Rattle.fvn_rewrite.specs.declared.making.Made.{Made}
 use Rattle.fvn_rewrite.specs.declared.making.MadeAll.{MadeAll}
 use Rattle.fvn_rewrite.specs.declared.making.Turned.{Turned}
 use Rattle.fvn_rewrite.specs.declared.making.Turned.TheVariants.{Whole, Over}
-use Rattle.fvn_rewrite.specs.declared.inside.Reached.{Reached}
 use Rattle.fvn_rewrite.specs.inner.Trying.{AllSidesFit}
 use Rattle.fvn_rewrite.specs.inner.SortedTerms.{spack, term_of, terms_of, IsSorted, AreSorted}
 
@@ -64,8 +63,8 @@ module _ (d : Declarations) (equations : Equations) where
   TurnsTo t before (Whole made) = IsMade t before made
   TurnsTo t before (Over f made) = IsMadeOver t before f made
 
-  -- as many steps as are used up lead from the form to the one that is reached
-  pub record IsReachedFrom (t : FlatTerm) (before : ℕ) (arrived : Reached) : Type 0 where
+  -- as many steps as are used up lead from the first form to the second, which fits
+  pub record IsReachedFrom (t : FlatTerm) (before : ℕ) (u : FlatTerm) (after : ℕ) : Type 0 where
     pub count : ℕ
-    pub spent : count + arrived.left ≡ before
-    pub reached : IsReached d equations count t arrived.form
+    pub spent : count + after ≡ before
+    pub reached : IsReached d equations count t u

@@ -21,7 +21,7 @@ abbrev pub invariant-inside_all-loop-t : goal.invariant-inside_all-loop-t
 invariant-inside_all-loop-t l = ArePartlyReached l.pass.sig.now (equations_of l.pass.rules.now.equations) l.ts l.t-index l.fn.left l.forms.items l.spare
 
 abbrev pub decreases-settle-loop-now : goal.decreases-settle-loop-now
-decreases-settle-loop-now l = l.spare
+decreases-settle-loop-now l = l.now.left
 
 abbrev pub invariant-settle-loop-now : goal.invariant-settle-loop-now
-invariant-settle-loop-now l = IsReachedFrom l.pass.sig.now (equations_of l.pass.rules.now.equations) l.fn.whole l.fn.left record { form = l.now; left = l.spare }
+invariant-settle-loop-now l = IsReachedFrom l.pass.sig.now (equations_of l.pass.rules.now.equations) l.fn.start.form l.fn.start.left l.now.form l.now.left
