@@ -4,7 +4,6 @@ use Rattle.std.specs.Prelude.{IfSome}
 use Rattle.std.proofs.lemmas.List.{drop_more, drop_all, append-nil}
 use Rattle.fvn_terms.specs.declared.plain.OpId.{OpId}
 use Rattle.fvn_terms.specs.declared.declarations.Declarations.{Declarations}
-use Rattle.fvn_terms.specs.Term.{Term}
 use Rattle.fvn_terms.specs.Equality.{BEqual}
 use Rattle.fvn_terms.specs.Theory.{Equations}
 use Rattle.fvn_terms.specs.Rewriting.{TermSequence}

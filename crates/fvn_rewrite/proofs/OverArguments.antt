@@ -8,7 +8,7 @@ use Rattle.fvn_terms.specs.declared.declarations.Axioms.{Axioms}
 use Rattle.fvn_terms.specs.declared.declarations.Axioms.TheVariants.{Free, Comm, AssocComm, AssocCommId}
 use Rattle.fvn_terms.specs.declared.declarations.Rank.{Rank}
 use Rattle.fvn_terms.specs.declared.declarations.Declarations.{Declarations}
-use Rattle.fvn_terms.specs.Term.{Term, Terms, app, none}
+use Rattle.fvn_terms.specs.Term.{Term, app, none}
 use Rattle.fvn_terms.specs.Signature.{kind, declared, axioms, HasKind, HaveKinds}
 use Rattle.fvn_terms.specs.Places.{AtOnePlace, inside}
 use Rattle.fvn_terms.specs.Equality.{IsAssociative}

@@ -1,7 +1,6 @@
 -- One argument more, the operator over them, and one step at the root more.
-use Rattle.std.proofs.Common.{◌-◌, refl, sym, ◌∙◌, subst, arith}
+use Rattle.std.proofs.Common.{◌-◌, refl, sym, ◌∙◌, arith}
 use Rattle.std.proofs.lemmas.Option.{IfSome_then}
-use Rattle.fvn_flat.specs.Fits.{AllFit}
 use Rattle.fvn_theory.specs.Equations.{equations_of}
 use Rattle.fvn_rewrite.specs.inner.Making.{IsReachedFrom}
 use Rattle.fvn_rewrite.specs.inner.Inside.{AreReachedFrom}
