@@ -150,12 +150,10 @@ fn settle(pass: &Pass<'_>, depth: u64, start: Reached) -> Result<Option<Reached>
             return Ok(None);
         }
         let over = arguments_first(pass, depth, &next, now.left - 1)?;
-        match over {
-            Some(reached) => {
-                now = reached;
-            }
-            None => return Ok(None),
-        }
+        let Some(reached) = over else {
+            return Ok(None);
+        };
+        now = reached;
     }
 }
 
