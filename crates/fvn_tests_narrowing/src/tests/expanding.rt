@@ -42,7 +42,8 @@ MEMBER sorts Elt Set Truth . subsort Elt < Set . op tt : -> Truth . op mt : -> S
 SORTED sorts A B . subsort A < B . op a : -> A . op b : -> B . ops f g : B -> B . op term : B B B -> B . vars X Y : B . var Z : A . eq f(Z) = Z [variant] . eq g(f(X)) = X [variant] .
 GROUP sort G . ops a e : -> G . op i : G -> G . op + : G G -> G [assoc comm] . op term : G G G -> G . vars X Y Z : G . eq +(X,e) = X [variant] . eq +(X,i(X)) = e [variant] . eq i(i(X)) = X [variant] . eq i(e) = e [variant] . eq +(i(X),i(Y)) = i(+(X,Y)) [variant] . eq i(+(i(X),Y)) = +(X,i(Y)) [variant] . eq +(i(+(X,Y)),Y) = i(X) [variant] .
 LOOP sort S . op a : -> S . op f : S -> S . op term : S S S -> S . vars X Y Z : S . eq f(X) = f(X) [variant] .
-UNIT sort S . ops a b c d 1 : -> S . op h : S S -> S . op & : S S -> S [assoc comm id: 1] . op term : S S S -> S . vars X Y Z : S . eq &(X,h(a,b)) = &(X,d) [variant] .";
+UNIT sort S . ops a b c d 1 : -> S . op h : S S -> S . op & : S S -> S [assoc comm id: 1] . op term : S S S -> S . vars X Y Z : S . eq &(X,h(a,b)) = &(X,d) [variant] .
+THREE sort S . ops a b c d : -> S . op + : S S -> S [assoc comm] . op term : S S S -> S . vars X Y Z : S . eq +(X,a,b) = +(X,d) [variant] .";
 
 // Each line has the name of a module, the number of unifiers at which the solver stops, a term, the number of its children
 // and the end; behind a bar the children may stand, each with its term, and behind a semicolon its values of the term's
@@ -53,7 +54,9 @@ UNIT sort S . ops a b c d 1 : -> S . op h : S S -> S . op & : S S -> S [assoc co
 // constants is even, and stands for a variable of that sort. In GROUP two variables have 26 children: 2 by `e`, 8 and 8
 // by an inverse beside what it is of, alone and within another one, and 8 by two inverses; no sum of three is taken whole.
 // In UNIT the rule is tried in place of its extension, whose two rests would divide `c` and `d` in four ways, and `c`
-// beside `Y` in two. Of the rule's two unifiers in the last row one gives `Y` a reducible value; `h(X,b)` has a child too.
+// beside `Y` in two. Of the rule's two unifiers in its last row one gives `Y` a reducible value; `h(X,b)` has a child
+// too. In THREE the rule's extension, which is not tried, would have twelve unifiers: two where `X` is `a + b`, and ten
+// where it has a summand more. The rule itself has one of each, of which the second gives `X` a reducible value.
 // Where two places stop, the end of the first is told. A form that stands at two places has its children once: in *(X,X,Y)
 // there are three of the sum of X and X, and six of that of X and Y.
 const ROWS: &str = "ENC 100 dec(X,Y) => 1 whole | x0 ; f2(x0,x1) x1
@@ -110,7 +113,8 @@ MIXED 100 *(a,b,g(*(a,b))) => 1 whole
 GROUP 100 +(X,Y) => 26 whole
 GROUP 100 +(X,Y,Z) => 78 whole
 UNIT 2 &(X,c,d) => 0 whole
-UNIT 100 &(h(X,b),Y,c) => 2 whole";
+UNIT 100 &(h(X,b),Y,c) => 2 whole
+THREE 4 +(X,c,d) => 1 whole";
 
 // Each line has the name of a module, a number of steps, a term, and what a search for its normal form ends with.
 const RESTS: &str = "LOOP 5 f(a) => steps f1(f0) f1(f0)
