@@ -1,6 +1,6 @@
 -- What is found at the root is a step.
-use Rattle.fvn_theory.specs.Equations.{equations_of}
 use Rattle.std.proofs.Common.{sym, ◌∙◌}
+use Rattle.fvn_theory.specs.Equations.{equations_of}
 use Rattle.fvn_rewrite.proofs.InsideAxioms.{root_next}
 use Rattle.fvn_rewrite.proofs.inside.at_root.Goals as goal
 
