@@ -19,8 +19,8 @@ note_emptied-requires c =
       sides = subst (λ l. sides l []) (sym c.as_slice-left.ensures.value) (subst (sides left) none c.requires.sides);
     }
 
-pub note_emptied-requires-2 : goal.note_emptied-requires-2
-note_emptied-requires-2 c =
+pub note_emptied-requires-then-has_none-2 : goal.note_emptied-requires-then-has_none-2
+note_emptied-requires-then-has_none-2 c =
     let P = All (λ k. k < length c.args.table.now.nodes) in
     let sides = AreSides c.args.sig.now c.args.table.now c.args.state.now c.args.f in
     let left = c.args.row.now.left.items in
