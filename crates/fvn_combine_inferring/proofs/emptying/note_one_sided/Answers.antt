@@ -1,5 +1,5 @@
 -- The side that is empty, and the other one.
-use Rattle.std.proofs.Common.{◌≡◌, ℕ, ◌<◌, List, [], All, length, sym, ◌∙◌, subst}
+use Rattle.std.proofs.Common.{◌≡◌, ◌<◌, [], All, length, sym, ◌∙◌, subst}
 use Rattle.std.proofs.lemmas.List.{nil_from_length}
 use Rattle.fvn_combine_inferring.specs.Rows.{AreSides}
 use Rattle.fvn_combine_inferring.proofs.Told.{other_side}
