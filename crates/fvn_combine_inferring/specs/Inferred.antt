@@ -1,6 +1,6 @@
 -- What all values that go with a state have in common. A unifier whose partition the state admits gives such values; where
 -- sorts are heeded, one that gives the problem's variables terms of their sorts.
-use Rattle.std.specs.Prelude.{◌≡◌, ◌≢◌, ℕ, ◌<◌, Bool, List, length, slice_index_or, Option, Some, None}
+use Rattle.std.specs.Prelude.{◌≡◌, ◌≢◌, ℕ, ◌<◌, Bool, List, length, slice_index_or, Option, Some, None, All}
 use Rattle.fvn_terms.specs.declared.plain.OpId.{OpId}
 use Rattle.fvn_terms.specs.declared.declarations.Declarations.{Declarations}
 use Rattle.fvn_terms.specs.Signature.{axioms}
@@ -36,6 +36,14 @@ module _ (d : Declarations) (t : NodeTable) (s : State) where
     -- all values that go with the state give the classes of nodes i and j one value
     abbrev pub HaveOneValue : ℕ → ℕ → Type 0
     HaveOneValue i j = (values : ℕ → FlatTerm) → GoWithSorts d t s sorted values → values (class_of s i) ≡ values (class_of s j)
+
+    -- both are nodes, and have one value
+    abbrev pub IsEqualPair : ℕ × ℕ → Type 0
+    IsEqualPair p = (p.0 < length t.nodes) × (p.1 < length t.nodes) × HaveOneValue p.0 p.1
+
+    -- so are the nodes of each pair
+    abbrev pub AreEqualPairs : List (ℕ × ℕ) → Type 0
+    AreEqualPairs = All IsEqualPair
 
     -- all such values give them different ones
     abbrev pub HaveTwoValues : ℕ → ℕ → Type 0

@@ -18,13 +18,15 @@ use fvn_combine_nodes::{State, Table};
 use fvn_signature::Signature;
 use fvn_terms::NoMemory;
 
-/// Pairs of classes, by the sizes of their values.
+/// Pairs of classes, by the sizes of their values, and pairs of nodes that have one value.
 #[derive(Drop)]
 pub struct Pairs {
     /// What sums and arguments say.
     pub insides: Vec<Inside>,
     /// What the rows say that are read: a single summand, and the class that has it.
     pub held: Vec<Inside>,
+    /// Nodes that have one value, as a row says of which one side is empty.
+    pub equal: Vec<(usize, usize)>,
 }
 
 // A single summand, and the one class of those that it is among which may have it: it has no more symbols, and fewer

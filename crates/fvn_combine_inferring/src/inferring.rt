@@ -5,12 +5,13 @@ ghost use Rattle.fvn_terms.specs.Equality.{IsAssociative};
 ghost use Rattle.fvn_combine_bounds.specs.CombineChoicesTables.{HasSums};
 ghost use Rattle.fvn_combine_leaves.specs.Readings.{IsReading};
 ghost use Rattle.fvn_combine_nodes.specs.States.{IsClosed, class_of};
-ghost use Rattle.fvn_combine_inferring.specs.Inferred.{TellHeads, IsInferred};
+ghost use Rattle.fvn_combine_inferring.specs.Inferred.{TellHeads, AreEqualPairs, IsInferred};
 ghost use Rattle.fvn_combine_inferring.specs.Rows.{AreSides};
 ghost use Rattle.fvn_combine_inferring.specs.inner.Holding.{ArePairs};
 ghost use Rattle.fvn_combine_inferring.specs.inner.Splits.{IsAddition};
 
 use crate::clashing::clashing;
+use crate::emptying::note_one_sided;
 use crate::expressions::{Addition, addition_of};
 use crate::heads::Known;
 use crate::holding::{Pairs, is_held_within, note_row};
@@ -98,6 +99,15 @@ fn infer_row(
     let insides = pairs.insides.as_slice();
     let told = rule(sig, table, state, known, addition, insides, left, right);
     if told.is_fact() {
+        note_one_sided(
+            pairs,
+            sig,
+            table,
+            state,
+            known.sorted,
+            addition.operator,
+            row,
+        )?;
         return Ok(told);
     }
     note_row(pairs, sig, table, state, known, addition, row)?;
@@ -198,7 +208,7 @@ fn infer_each(
 }
 
 /// Something that holds of all values that go with the state, as its sums say, or a question; nothing may
-/// always be said.
+/// always be said. Further pairs of nodes have one value.
 pub fn infer(
     alloc: Global,
     sig: &Signature,
@@ -206,32 +216,37 @@ pub fn infer(
     state: &State,
     reading: &Reading,
     known: &Known,
-) -> Result<Inferred, NoMemory>
+) -> Result<(Inferred, Vec<(usize, usize)>), NoMemory>
     requires closed { IsClosed sig.now table.now state.now }
     requires sums { HasSums sig.now table.now }
     requires reading { IsReading sig.now table.now (class_of state.now) reading.now }
     requires heads { TellHeads sig.now table.now state.now known.now.sorted known.now.heads.items }
-    ensures { IfOk result (IsInferred sig.now table.now state.now known.now.sorted) }
+    ensures is { IfOk result (λ r. IsInferred sig.now table.now state.now known.now.sorted r.0) }
+    ensures others { IfOk result (λ r.
+        AreEqualPairs sig.now table.now state.now known.now.sorted r.1.items) }
 {
     let list = insides(alloc, sig, table, state, reading, known)?;
     if is_circular(list.as_slice(), has_several(reading)) {
-        return Ok(Inferred::Impossible);
+        return Ok((Inferred::Impossible, Vec::new(alloc)));
     }
     let held = Vec::new(alloc);
+    let equal = Vec::new(alloc);
     let mut pairs = Pairs {
         insides: list,
         held,
+        equal,
     };
     let told = infer_each(alloc, sig, table, state, reading, known, &mut pairs)?;
     if told.is_fact() {
-        return Ok(told);
+        let others = Vec::from_slice(alloc, pairs.equal.as_slice())?;
+        return Ok((told, others));
     }
     if is_held_within(&mut pairs.held, pairs.insides.as_slice())? {
-        return Ok(Inferred::Impossible);
+        return Ok((Inferred::Impossible, Vec::new(alloc)));
     }
     let clash = clashing(sig, table, state, known);
     if clash.is_fact() {
-        return Ok(clash);
+        return Ok((clash, Vec::new(alloc)));
     }
-    Ok(clash.or_told(told))
+    Ok((clash.or_told(told), Vec::new(alloc)))
 }

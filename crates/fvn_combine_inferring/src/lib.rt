@@ -7,6 +7,7 @@ mod bounds;
 mod cancelling;
 mod clashing;
 mod differing;
+mod emptying;
 mod expressions;
 mod heads;
 mod holding;

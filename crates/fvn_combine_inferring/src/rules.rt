@@ -19,7 +19,7 @@ use fvn_signature::Signature;
 use fvn_terms::OpId;
 
 // Whether the list has no classes.
-fn has_none(list: &[usize]) -> bool
+pub(crate) fn has_none(list: &[usize]) -> bool
     ensures { IsTrue result ↔ (length list.now ≡ 0) }
 {
     list.len() == 0

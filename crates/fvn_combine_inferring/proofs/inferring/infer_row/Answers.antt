@@ -31,6 +31,16 @@ note_row-requires c = record {
   sides = c.requires.sides;
 }
 
+pub note_one_sided-requires : goal.note_one_sided-requires
+note_one_sided-requires c = record {
+  closed = c.requires.closed;
+  sums = c.requires.sums;
+  pairs = c.requires.pairs;
+  left = c.requires.left;
+  right = c.requires.right;
+  sides = c.requires.sides;
+}
+
 pub stood_for-requires : goal.stood_for-requires
 stood_for-requires c = record {
   closed = c.requires.closed;
