@@ -1,12 +1,13 @@
 -- How states begin, and what is left of them after a question.
 use Rattle.std.proofs.Common.{◌≡◌, ◌≢◌, ℕ, ◌+◌, ◌<◌, List, [], ◌∷◌, ◌++◌, length, take, get_or, refl, sym, ap, ◌∙◌, subst, arith, All, Contains, Option, Some, None}
 use Rattle.std.proofs.lemmas.List.{take-take, get_or-take, length-take-le, get_or_default}
-use Rattle.std.proofs.lemmas.List.Elements.{All-nil, All-more, All-push, All-take, All-same, Contains-append_left, Contains-push}
+use Rattle.std.proofs.lemmas.List.Elements.{All-nil, All-more, All-push, All-take, All-same, All-contains, Contains-append_left, Contains-push}
 use Rattle.fvn_terms.specs.declared.declarations.Declarations.{Declarations}
 use Rattle.fvn_combine_nodes.specs.Table.{NodeTable, IsWellMade}
 use Rattle.fvn_combine_nodes.specs.Classes.{IsNodePartition}
 use Rattle.fvn_combine_nodes.specs.States.{Admits, IsNaming, IsClosed, IsOpen, class_of}
 use Rattle.fvn_combine_tree.specs.Questions.{IsStart, IsAnswer}
+use Rattle.fvn_combine_tree.specs.Trees.{AreMet}
 use Rattle.fvn_combine_nodes.specs.declared.state.State.{State}
 use Rattle.fvn_combine_tree.specs.declared.closing.Move.{Move}
 use Rattle.fvn_combine_tree.specs.declared.closing.Move.TheVariants.{Stays, Changes, Clashes}
@@ -79,6 +80,32 @@ module _ (d : Declarations) (t : NodeTable) where
     pub start_is : (r : Option State) → IsClosureOf d t s1 r → IsStart d t r
     start_is None h = λ class partition. h class partition (start_admits class partition)
     start_is (Some r) h = (h.0, λ class partition. h.2.forced class partition (start_admits class partition))
+
+  -- the nodes of each pair were joined, and of one pair they were open
+  module _ (made : IsWellMade t) (s : State) (closed : IsClosed d t s) (pairs : List (ℕ × ℕ)) (within : All (λ p. (p.0 < length t.nodes) × (p.1 < length t.nodes)) pairs) (i j : ℕ) (listed : Contains pairs (i, j)) (open_now : IsOpen s i j) (s1 : State) (joined : IsJoinedFrom pairs s s1) where
+    pub met_sides : All (λ p. class_of s1 p.0 ≡ class_of s1 p.1) t.sides
+    met_sides = sides_kept s s1 joined.forced.coarser (length t.nodes) closed.whole t.sides made.sides closed.partition.sides
+
+    pub met_is : (r : Option State) → IsClosureOf d t s1 r → IsAnswer d t s (AreMet pairs) r
+    met_is None h = λ class partition admits e. h class partition (joined.forced.forced class e admits)
+    met_is (Some r) h =
+        let Known : (ℕ → ℕ) → Type 0 = λ class. IsNodePartition d t class × AreMet pairs class in
+        let whole : IsForced Known s r = forced-trans Known s s1 r closed.naming joined.nodes (forced_weaker (AreMet pairs) Known s s1 (λ class k. k.1) joined.forced) (forced_weaker (IsNodePartition d t) Known s1 r (λ class k. k.0) h.2) in
+        let all = same_nodes-trans s s1 r joined.nodes h.1 in
+        let w = closed.whole in
+        let one : (i < length t.nodes) × (j < length t.nodes) = All-contains (λ p. (p.0 < length t.nodes) × (p.1 < length t.nodes)) pairs (i, j) within listed in
+        let l = one.0 in
+        let m = one.1 in
+        let holds = λ (class : ℕ → ℕ) (a : Admits r class).
+        let b = forced_grows (IsNodePartition d t) s1 r joined.nodes.naming h.1 h.2 class a in
+        (forced_grows (AreMet pairs) s s1 closed.naming joined.nodes joined.forced class b, joined.joined class b) in
+        let here : class_of r i ≡ class_of r j = All-contains (λ p. class_of r p.0 ≡ class_of r p.1) pairs (i, j) (holds (class_of r) (admits_itself r h.0.naming h.0.apart)).1 listed in
+        record {
+          closed = h.0;
+          holds = holds;
+          forced = λ class partition a e. h.2.forced class partition (joined.forced.forced class e a);
+          falls = open_falls s r all.whole whole.coarser closed.naming (λ p c. subst (λ l. Contains l p) (sym all.apart) c) i j (omega arith) (omega arith) open_now (same_not_open r i j here);
+        }
 
   module _ (made : IsWellMade t) (s : State) (closed : IsClosed d t s) (i j : ℕ) (left : i < length t.nodes) (right : j < length t.nodes) (open_now : IsOpen s i j) where
     left_in : i < length s.names

@@ -1,5 +1,5 @@
 -- Decision trees: states that are still to be looked at.
-use Rattle.std.specs.Prelude.{◌≡◌, ◌≢◌, ℕ, ◌<◌, ◌^◌, List, [], ◌∷◌, ◌++◌, length, sum_by, All, AllPairs, Any}
+use Rattle.std.specs.Prelude.{◌≡◌, ◌≢◌, ℕ, ◌<◌, ◌^◌, List, [], ◌∷◌, ◌++◌, length, sum_by, All, AllPairs, Any, Contains}
 use Rattle.fvn_terms.specs.declared.declarations.Declarations.{Declarations}
 use Rattle.fvn_combine_nodes.specs.Table.{NodeTable}
 use Rattle.fvn_combine_nodes.specs.Classes.{IsNodePartition}
@@ -38,6 +38,14 @@ pub record IsOpenAtTop (states : List State) (i j : ℕ) : Type 0 where
   pub top : State
   pub is : states ≡ below ++ top ∷ []
   pub open_there : IsOpen top i j
+
+-- the nodes of one of the pairs are open in the last state
+abbrev pub SomeOpenAtTop : List State → List (ℕ × ℕ) → Type 0
+SomeOpenAtTop states pairs = (i : ℕ) × (j : ℕ) × Contains pairs (i, j) × IsOpenAtTop states i j
+
+-- the nodes of each pair are in one class
+abbrev pub AreMet : List (ℕ × ℕ) → (ℕ → ℕ) → Type 0
+AreMet pairs class = All (λ p. class p.0 ≡ class p.1) pairs
 
 -- the last state made way for what is left of it; the others stay
 pub record IsAsked (d : Declarations) (t : NodeTable) (before after : List State) : Type 0 where

@@ -2,8 +2,9 @@
 ghost use Rattle.std.specs.Prelude.{◌≡◌, ◌≢◌, ◌<◌, length, All, IfOk};
 ghost use Rattle.fvn_combine_nodes.specs.States.{IsClosed, IsOpen, IsNaming};
 ghost use Rattle.fvn_combine_tree.specs.Questions.{IsStart, IsAnswer, AreAnswers};
+ghost use Rattle.fvn_combine_tree.specs.Trees.{AreMet};
 ghost use Rattle.fvn_combine_tree.specs.inner.Closing.{state_of};
-ghost use Rattle.fvn_combine_tree.specs.inner.Starts.{IsSingles, IsJoinedFrom};
+ghost use Rattle.fvn_combine_tree.specs.inner.Starts.{IsSingles, IsJoinedFrom, SomeOpen};
 
 use crate::chains::Chains;
 use crate::closing::{Closing, close};
@@ -91,6 +92,28 @@ pub(crate) fn ask_same(
     let mut closing = opened(alloc, state)?;
     let chains = Chains::new(alloc, table.nodes().len())?;
     let _moved = closing.join(i, j);
+    let left = close(sig, table, closing, chains);
+    Ok(left)
+}
+
+/// What is left where the nodes of each pair are in one class: all are joined, and the state is closed once.
+pub(crate) fn ask_met(
+    alloc: Global,
+    sig: &Signature,
+    table: &Table,
+    state: &State,
+    pairs: &[(usize, usize)],
+) -> Result<Option<State>, NoMemory>
+    requires closed { IsClosed sig.now table.now state.now }
+    requires within { All (λ p. (p.0 < length table.now.nodes)
+        × (p.1 < length table.now.nodes)) pairs.now }
+    requires some_open { SomeOpen state.now pairs.now }
+    ensures { IfOk result (IsAnswer sig.now table.now state.now (AreMet pairs.now)) }
+{
+    table.recall_well_made();
+    let mut closing = opened(alloc, state)?;
+    let chains = Chains::new(alloc, table.nodes().len())?;
+    join_sides(&mut closing, pairs);
     let left = close(sig, table, closing, chains);
     Ok(left)
 }

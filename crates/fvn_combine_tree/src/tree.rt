@@ -1,10 +1,11 @@
 //! Decision trees over the nodes of a table.
-ghost use Rattle.std.specs.Prelude.{◌≡◌, ◌≢◌, ℕ, ◌-◌, ◌<◌, List, [], ◌∷◌, ◌++◌, take, length, IfOk, OnOk, OnErr, IfSome, MatchOption};
+ghost use Rattle.std.specs.Prelude.{◌≡◌, ◌≢◌, ℕ, ◌-◌, ◌<◌, List, [], ◌∷◌, ◌++◌, take, length, All, IfOk, OnOk, OnErr, IfSome, MatchOption};
 ghost use Rattle.fvn_combine_nodes.specs.Classes.{IsNodePartition};
-ghost use Rattle.fvn_combine_tree.specs.Trees.{weight, IsToCome, AreClosed, AreInOrder, IsOpenAtTop, IsAsked, IsTakenOn};
+ghost use Rattle.fvn_combine_tree.specs.Trees.{weight, IsToCome, AreClosed, AreInOrder, IsOpenAtTop, SomeOpenAtTop};
+ghost use Rattle.fvn_combine_tree.specs.Trees.{AreMet, IsAsked, IsTakenOn};
 ghost use Rattle.fvn_combine_tree.specs.inner.Starts.{listed};
 
-use crate::asking::{Answers, ask, ask_apart, ask_same, start};
+use crate::asking::{Answers, ask, ask_apart, ask_met, start};
 use fvn_combine_nodes::{State, Table};
 use fvn_signature::Signature;
 use fvn_terms::NoMemory;
@@ -142,22 +143,21 @@ impl Tree {
         Ok(())
     }
 
-    /// Puts in place of the top what is left of it where nodes i and j are in one class; where they are
+    /// Puts in place of the top what is left of it where the nodes of each pair are in one class; where some are
     /// apart nothing is to come any more.
     pub fn meet(
         &mut self,
         alloc: Global,
         sig: &Signature,
         table: &Table,
-        i: usize,
-        j: usize,
+        pairs: &[(usize, usize)],
     ) -> Result<(), NoMemory>
         requires closed { AreClosed sig.now table.now self.old }
-        requires left { i < length table.now.nodes }
-        requires right { j < length table.now.nodes }
-        requires open { IsOpenAtTop self.old i j }
+        requires within { All (λ p. (p.0 < length table.now.nodes)
+            × (p.1 < length table.now.nodes)) pairs.now }
+        requires some_open { SomeOpenAtTop self.old pairs.now }
         ensures met { OnOk result
-            (IsTakenOn sig.now table.now (λ class. class i ≡ class j) self.old self.new) }
+            (IsTakenOn sig.now table.now (AreMet pairs.now) self.old self.new) }
         ensures closed { AreClosed sig.now table.now self.new }
         // Of two states the one in which nodes are together is looked at first.
         ensures ordered { AreInOrder self.old → AreInOrder self.new }
@@ -165,7 +165,7 @@ impl Tree {
         ensures no_memory { OnErr result (self.new ≡ self.old) }
     {
         let same = match self.states.as_slice().last() {
-            Some(top) => ask_same(alloc, sig, table, top, i, j)?,
+            Some(top) => ask_met(alloc, sig, table, top, pairs)?,
             None => return Ok(()),
         };
         replace_top(&mut self.states, Answers { same, apart: None })?;

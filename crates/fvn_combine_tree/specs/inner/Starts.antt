@@ -1,7 +1,7 @@
 -- How a state begins.
-use Rattle.std.specs.Prelude.{◌≡◌, ℕ, ◌<◌, List, [], ◌++◌, length, All}
+use Rattle.std.specs.Prelude.{◌≡◌, ℕ, ◌<◌, List, [], ◌++◌, length, All, Contains}
 use Rattle.std.specs.Option.{option_to_list}
-use Rattle.fvn_combine_nodes.specs.States.{Admits, class_of}
+use Rattle.fvn_combine_nodes.specs.States.{Admits, IsOpen, class_of}
 use Rattle.fvn_combine_tree.specs.inner.Closing.{HasSameNodes, IsForced}
 use Rattle.fvn_combine_nodes.specs.declared.state.State.{State}
 use Rattle.fvn_combine_tree.specs.declared.asking.Answers.{Answers}
@@ -17,6 +17,10 @@ pub record IsJoinedFrom (sides : List (ℕ × ℕ)) (before after : State) : Typ
   pub nodes : HasSameNodes before after
   pub joined : (class : ℕ → ℕ) → Admits after class → All (λ p. class p.0 ≡ class p.1) sides
   pub forced : IsForced (λ class. All (λ p. class p.0 ≡ class p.1) sides) before after
+
+-- the nodes of one of the pairs are open in the state
+abbrev pub SomeOpen : State → List (ℕ × ℕ) → Type 0
+SomeOpen s pairs = (i : ℕ) × (j : ℕ) × Contains pairs (i, j) × IsOpen s i j
 
 -- the states that are left, those where the nodes are in one class at the end
 abbrev pub listed : Answers → List State
