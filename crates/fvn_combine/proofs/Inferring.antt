@@ -9,7 +9,7 @@ use Rattle.fvn_combine_nodes.specs.declared.state.State.{State}
 use Rattle.fvn_combine_nodes.proofs.Kernels.{same_class, same_value}
 use Rattle.fvn_combine_inferring.specs.Laws.{SortedUnifiersGoWith}
 use Rattle.fvn_combine_inferring.specs.Sorted.{GoWithSorts}
-use Rattle.fvn_combine_inferring.specs.Inferred.{HasNoValues, HaveOneValue, HaveTwoValues, MustMeet, AreEqualPairs}
+use Rattle.fvn_combine_inferring.specs.Inferred.{HasNoValues, HaveOneValue, HaveTwoValues, MustMeet, IsEqualPair, AreEqualPairs}
 use Rattle.fvn_combine.specs.Tasks.{Combining, IsCombining}
 use Rattle.fvn_combine.specs.inner.Found.{IsAdmittedBy, MeetUnderAll, IsLookedAt, IsLooked}
 use Rattle.fvn_combine.specs.declared.looking.Looked.{Looked}
@@ -41,17 +41,14 @@ module _ (k : Combining) (is : IsCombining k) (law : SortedUnifiersGoWith) (s : 
   abbrev Within : ℕ × ℕ → Type 0
   Within p = (p.0 < length k.table.nodes) × (p.1 < length k.table.nodes)
 
-  abbrev Equal : ℕ × ℕ → Type 0
-  Equal p = (p.0 < length k.table.nodes) × (p.1 < length k.table.nodes) × HaveOneValue k.declarations k.table s k.sorted p.0 p.1
-
   -- two nodes and further pairs that have one value each under all
   pub pairs_admitted : (others pairs : List (ℕ × ℕ)) (i j : ℕ) → pairs ≡ others ++ (i, j) ∷ [] → AreEqualPairs k.declarations k.table s k.sorted others → MustMeet k.declarations k.table s k.sorted i j → MeetUnderAll k s pairs
   pairs_admitted others pairs i j longer equal must = subst (MeetUnderAll k s) (sym longer) record {
-    within = All-push Within others (i, j) (All-weaker Equal Within (λ p h. (h.0, h.1)) others equal) (must.open_pair.left, must.open_pair.right);
+    within = All-push Within others (i, j) (All-weaker (IsEqualPair k.declarations k.table s k.sorted) Within (λ p h. (h.0, h.1)) others equal) (must.open_pair.left, must.open_pair.right);
     some_open = (i, j, Contains-push others (i, j), must.open_pair.undecided);
     met = λ u h.
         All-push (λ p. kernel k.declarations u k.table.nodes p.0 ≡ kernel k.declarations u k.table.nodes p.1) others (i, j)
-        (All-weaker Equal (λ p. kernel k.declarations u k.table.nodes p.0 ≡ kernel k.declarations u k.table.nodes p.1) (λ p e. together_admitted p.0 p.1 e.0 e.1 e.2 u h) others equal) (together_admitted i j must.open_pair.left must.open_pair.right must.equal u h);
+        (All-weaker (IsEqualPair k.declarations k.table s k.sorted) (λ p. kernel k.declarations u k.table.nodes p.0 ≡ kernel k.declarations u k.table.nodes p.1) (λ p e. together_admitted p.0 p.1 e.0 e.1 e.2 u h) others equal) (together_admitted i j must.open_pair.left must.open_pair.right must.equal u h);
   }
 
 -- what is asked for by the last state is asked for by the tree

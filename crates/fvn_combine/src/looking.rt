@@ -407,7 +407,8 @@ fn look_inferred(
     task.recall();
     tables_have_sums();
     sorted_unifiers_go_with();
-    let (told, others) = infer(task.alloc, task.sig, &task.table, state, reading, known)?;
+    let found = infer(task.alloc, task.sig, &task.table, state, reading, known)?;
+    let (told, others) = found;
     match told {
         Inferred::Impossible => Ok(Some(Looked::Passed)),
         Inferred::Together(i, j) => {
