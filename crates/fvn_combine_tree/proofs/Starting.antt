@@ -96,9 +96,11 @@ module _ (d : Declarations) (t : NodeTable) where
         let one : (i < length t.nodes) × (j < length t.nodes) = All-contains (λ p. (p.0 < length t.nodes) × (p.1 < length t.nodes)) pairs (i, j) within listed in
         let l = one.0 in
         let m = one.1 in
-        let holds = λ (class : ℕ → ℕ) (a : Admits r class).
+        let holds : (class : ℕ → ℕ) → Admits r class → Admits s class × AreMet pairs class = (
+        λ class a.
         let b = forced_grows (IsNodePartition d t) s1 r joined.nodes.naming h.1 h.2 class a in
-        (forced_grows (AreMet pairs) s s1 closed.naming joined.nodes joined.forced class b, joined.joined class b) in
+        (forced_grows (AreMet pairs) s s1 closed.naming joined.nodes joined.forced class b, joined.joined class b)
+        ) in
         let here : class_of r i ≡ class_of r j = All-contains (λ p. class_of r p.0 ≡ class_of r p.1) pairs (i, j) (holds (class_of r) (admits_itself r h.0.naming h.0.apart)).1 listed in
         record {
           closed = h.0;

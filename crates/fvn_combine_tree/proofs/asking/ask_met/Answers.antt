@@ -1,5 +1,5 @@
 -- The nodes of each pair are joined, and the state is closed again.
-use Rattle.std.proofs.Common.{◌≡◌, ℕ, length, sym, ap, ◌∙◌, subst}
+use Rattle.std.proofs.Common.{◌≡◌, ◌<◌, length, sym, ap, ◌∙◌, subst}
 use Rattle.std.specs.Prelude.{All}
 use Rattle.fvn_combine_nodes.specs.States.{IsNaming}
 use Rattle.fvn_combine_nodes.specs.declared.state.State.{State}
