@@ -43,8 +43,8 @@ pub(crate) enum Looked {
     Over,
     /// The question whether two nodes are in one class.
     Open(usize, usize),
-    /// Two nodes are in one class under all unifiers.
-    Together(usize, usize),
+    /// The nodes of each pair are in one class under all unifiers.
+    Together(Vec<(usize, usize)>),
     /// Two nodes are in different classes under all unifiers.
     Apart(usize, usize),
     /// Each unifier of the state has a more general one, of the state too, under which two nodes are in different classes.
@@ -407,9 +407,15 @@ fn look_inferred(
     task.recall();
     tables_have_sums();
     sorted_unifiers_go_with();
-    match infer(task.alloc, task.sig, &task.table, state, reading, known)? {
+    let found = infer(task.alloc, task.sig, &task.table, state, reading, known)?;
+    let (told, others) = found;
+    match told {
         Inferred::Impossible => Ok(Some(Looked::Passed)),
-        Inferred::Together(i, j) => Ok(Some(Looked::Together(i, j))),
+        Inferred::Together(i, j) => {
+            let mut pairs = others;
+            pairs.push((i, j))?;
+            Ok(Some(Looked::Together(pairs)))
+        }
         Inferred::Question(i, j) => {
             let looked = worth_asking(task, state, i, j)?;
             Ok(Some(looked))
@@ -470,11 +476,11 @@ fn look_at(task: &Task, state: &State, effort: &mut Effort) -> Result<Looked, No
     }
 }
 
-// Whether nothing is asked: two nodes are put together or apart, and the same state is looked at again.
+// Whether nothing is asked: nodes are put together or apart, and the same state is looked at again.
 fn is_fact(looked: &Looked) -> bool {
     matches!(
         looked,
-        Looked::Together(_, _) | Looked::Apart(_, _) | Looked::Parted(_, _)
+        Looked::Together(_) | Looked::Apart(_, _) | Looked::Parted(_, _)
     )
 }
 

@@ -78,17 +78,16 @@ fn ask_last(
     Ok(Step::More)
 }
 
-// Takes on that two nodes are in one class.
+// Takes on that the nodes of each pair are in one class.
 fn meet_last(
     task: &Task,
     tree: &mut Tree,
     leaf: &mut Option<Leaf>,
-    i: usize,
-    j: usize,
+    pairs: Vec<(usize, usize)>,
 ) -> Result<Step, NoMemory>
     requires closed { AreClosed task.now.declarations task.now.table tree.old }
     requires ordered { AreInOrder tree.old }
-    requires looked { IsLookedAtLast task.now tree.old (Together i j) }
+    requires looked { IsLookedAtLast task.now tree.old (Together pairs) }
     ensures closed { AreClosed task.now.declarations task.now.table tree.new }
     ensures ordered { AreInOrder tree.new }
     ensures stepped { IfOk result (IsStep task.now tree.old leaf.old tree.new leaf.new) }
@@ -96,7 +95,7 @@ fn meet_last(
 {
     task.recall();
     unifiers_partition();
-    tree.meet(task.alloc, task.sig, &task.table, i, j)?;
+    tree.meet(task.alloc, task.sig, &task.table, pairs.as_slice())?;
     close_leaf(leaf);
     Ok(Step::More)
 }
@@ -200,7 +199,7 @@ fn take_step(
     match look(task, tree, effort)? {
         Looked::Over => Ok(Step::Over),
         Looked::Open(i, j) => ask_last(task, tree, leaf, i, j),
-        Looked::Together(i, j) => meet_last(task, tree, leaf, i, j),
+        Looked::Together(pairs) => meet_last(task, tree, leaf, pairs),
         Looked::Apart(i, j) => part_last(task, tree, leaf, i, j),
         Looked::Parted(i, j) => part_last_general(task, tree, leaf, i, j),
         Looked::Passed => Ok(pass_last(task, tree, leaf)),

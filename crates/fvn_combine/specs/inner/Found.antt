@@ -1,10 +1,10 @@
 -- What is found when states are looked at and choices are gone through.
-use Rattle.std.specs.Prelude.{◌≡◌, ◌≢◌, ◌⊎◌, ◌↔◌, ℕ, ◌*◌, ◌<◌, ◌≤◌, Bool, true, false, List, [], ◌∷◌, ◌++◌, length, Option, Result, Ok, Err}
+use Rattle.std.specs.Prelude.{◌≡◌, ◌≢◌, ◌⊎◌, ◌↔◌, ℕ, ◌*◌, ◌<◌, ◌≤◌, Bool, true, false, List, [], ◌∷◌, ◌++◌, length, Contains, All, Option, Result, Ok, Err}
 use Rattle.fvn_base.specs.declared.memory.NoMemory.{NoMemory}
 use Rattle.fvn_terms.specs.Substitution.{Substitution}
 use Rattle.fvn_flat.specs.Solving.{IsBasisCause, IsTooLarge}
 use Rattle.fvn_combine_nodes.specs.States.{Admits, IsOpen}
-use Rattle.fvn_combine_tree.specs.Trees.{weight}
+use Rattle.fvn_combine_tree.specs.Trees.{weight, AreMet}
 use Rattle.fvn_combine_nodes.specs.Unifiers.{kernel}
 use Rattle.fvn_combine_loose.specs.Loose.{AreParted}
 use Rattle.fvn_combine_loose.specs.Laws.{AreVariables}
@@ -80,16 +80,21 @@ module _ (k : Combining) where
     pub enough : k.general ≡ true
     pub parted : AreParted k.declarations k.table s i j
 
-  -- A question is open in the state; two nodes of which it is open are in one class, or in two, under each unifier that it
+  -- the pairs are of nodes, of some it is open in the state whether they are in one class, and they are so under each unifier
+  -- that it admits and that is asked for
+  pub record MeetUnderAll (s : State) (pairs : List (ℕ × ℕ)) : Type 0 where
+    pub within : All (λ p. (p.0 < length k.table.nodes) × (p.1 < length k.table.nodes)) pairs
+    pub some_open : (i : ℕ) × (j : ℕ) × Contains pairs (i, j) × IsOpen s i j
+    pub met : (u : Substitution) → IsAdmittedBy s u → AreMet pairs (kernel k.declarations u k.table.nodes)
+
+  -- A question is open in the state; nodes are in one class, or two of which it is open in two, under each unifier that it
   -- admits and that is asked for; or in two under one that it admits too, and that stands for this one; it admits none of
   -- these; none is open, and a sum system of the problem under its partition is refused; or it is a leaf, which is opened, and of
   -- each of these one that stands for it is to come there.
   abbrev pub IsLookedAt : State → Looked → Type 0
   IsLookedAt s Over = ⊥
   IsLookedAt s (Open i j) = (i < length k.table.nodes) × (j < length k.table.nodes) × IsOpen s i j
-  IsLookedAt s (Together i j) =
-      (i < length k.table.nodes) × (j < length k.table.nodes) × IsOpen s i j
-      × ((u : Substitution) → IsAdmittedBy s u → kernel k.declarations u k.table.nodes i ≡ kernel k.declarations u k.table.nodes j)
+  IsLookedAt s (Together pairs) = MeetUnderAll s pairs.items
   IsLookedAt s (Apart i j) =
       (i < length k.table.nodes) × (j < length k.table.nodes) × IsOpen s i j
       × ((u : Substitution) → IsAdmittedBy s u → kernel k.declarations u k.table.nodes i ≢ kernel k.declarations u k.table.nodes j)
@@ -115,7 +120,7 @@ module _ (k : Combining) where
   abbrev pub IsLooked : List State → Looked → Type 0
   IsLooked states Over = states ≡ []
   IsLooked states (Open i j) = IsLookedAtLast states (Open i j)
-  IsLooked states (Together i j) = IsLookedAtLast states (Together i j)
+  IsLooked states (Together pairs) = IsLookedAtLast states (Together pairs)
   IsLooked states (Apart i j) = IsLookedAtLast states (Apart i j)
   IsLooked states (Parted i j) = IsLookedAtLast states (Parted i j)
   IsLooked states Passed = IsLookedAtLast states Passed

@@ -4,11 +4,11 @@ use Rattle.fvn_flat.specs.Solving.{problem_of}
 use Rattle.fvn_combine_nodes.specs.States.{IsClosed, class_of}
 use Rattle.fvn_combine_leaves.specs.Readings.{IsReading}
 use Rattle.fvn_combine.specs.Tasks.{Combining}
-use Rattle.fvn_combine_inferring.specs.Inferred.{IsInferred, TellHeads}
+use Rattle.fvn_combine_inferring.specs.Inferred.{IsInferred, AreEqualPairs, TellHeads}
 use Rattle.fvn_combine_inferring.specs.declared.inferring.Inferred.{Inferred}
 use Rattle.fvn_combine_inferring.specs.declared.inferring.Inferred.TheVariants.{Impossible, Together, Question}
-use Rattle.fvn_combine.proofs.Inferring.{none_admitted, together_admitted}
-use Rattle.fvn_combine.proofs.looking.look_inferred.Goals.{In_ok-infer}
+use Rattle.fvn_combine.proofs.Inferring.{none_admitted, pairs_admitted}
+use Rattle.fvn_combine.proofs.looking.look_inferred.Goals.{In_ok-found}
 use Rattle.fvn_combine.proofs.looking.look_inferred.Goals as goal
 
 pub infer-requires : goal.infer-requires
@@ -20,25 +20,27 @@ infer-requires c = record {
 }
 
 -- what is inferred, of the task
-inferred : (c : In_ok-infer) → (r : Inferred) → c.in_ok-infer.field-0 ≡ r → IsInferred c.args.task.now.declarations c.args.task.now.table c.args.state.now c.args.task.now.sorted r
+inferred : (c : In_ok-found) → (r : Inferred) → c.in_ok-found.found.0 ≡ r → IsInferred c.args.task.now.declarations c.args.task.now.table c.args.state.now c.args.task.now.sorted r
 inferred c r is =
     subst (λ b. IsInferred c.args.task.now.declarations c.args.task.now.table c.args.state.now b r) c.requires.sorted
     (subst (λ (k : Combining). IsInferred k.declarations k.table c.args.state.now c.args.known.now.sorted r) c.task.view_is
-    (subst (IsInferred c.task.inside.sig.now c.task.inside.table c.args.state.now c.args.known.now.sorted) is c.in_ok-infer.ensures))
+    (subst (IsInferred c.task.inside.sig.now c.task.inside.table c.args.state.now c.args.known.now.sorted) is c.in_ok-found.ensures.is))
 
 pub returns-in-Impossible : goal.returns-in-Impossible
 returns-in-Impossible c =
-    none_admitted c.args.task.now c.recall.ensures c.sorted_unifiers_go_with.ensures c.args.state.now c.requires.closed (inferred (goal.at.returns-in-Impossible c).In_ok-infer Impossible c.in-Impossible.is)
+    none_admitted c.args.task.now c.recall.ensures c.sorted_unifiers_go_with.ensures c.args.state.now c.requires.closed (inferred (goal.at.returns-in-Impossible c).In_ok-found Impossible c.in-Impossible.is)
 
-pub returns-in-Together : goal.returns-in-Together
-returns-in-Together c =
+pub returns-in_ok-push-in-Together : goal.returns-in_ok-push-in-Together
+returns-in_ok-push-in-Together c =
     let i = c.in-Together.i in
     let j = c.in-Together.j in
-    let must = inferred (goal.at.returns-in-Together c).In_ok-infer (Together i j) c.in-Together.is in
-    let open_pair = must.open_pair in
-    (open_pair.left, open_pair.right, open_pair.undecided, together_admitted c.args.task.now c.recall.ensures c.sorted_unifiers_go_with.ensures c.args.state.now c.requires.closed i j open_pair.left open_pair.right must.equal)
+    let must = inferred (goal.at.returns-in_ok-push-in-Together c).In_ok-found (Together i j) c.in-Together.is in
+    let others =
+    subst (λ b. AreEqualPairs c.args.task.now.declarations c.args.task.now.table c.args.state.now b c.in_ok-found.found.1.items) c.requires.sorted
+    (subst (λ (k : Combining). AreEqualPairs k.declarations k.table c.args.state.now c.args.known.now.sorted c.in_ok-found.found.1.items) c.task.view_is c.in_ok-found.ensures.others) in
+    pairs_admitted c.args.task.now c.recall.ensures c.sorted_unifiers_go_with.ensures c.args.state.now c.requires.closed c.in_ok-found.found.1.items c.push.new.self.items i j c.in_ok-push-in-Together.ensures.items others must
 
 pub worth_asking-requires : goal.worth_asking-requires
 worth_asking-requires c =
-    let q = inferred (goal.at.worth_asking-requires c).In_ok-infer (Question c.in-Question.i c.in-Question.j) c.in-Question.is in
+    let q = inferred (goal.at.worth_asking-requires c).In_ok-found (Question c.in-Question.i c.in-Question.j) c.in-Question.is in
     record { closed = c.requires.closed; left = q.left; right = q.right; «open» = q.undecided }

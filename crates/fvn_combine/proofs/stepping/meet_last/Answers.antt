@@ -1,6 +1,6 @@
--- What is left of the last state has the nodes in one class, as all unifiers have them.
-use Rattle.std.proofs.Common.{◌≡◌, ℕ, ◌<◌, length, sym, subst, zero-le, None}
-use Rattle.fvn_combine_tree.specs.Trees.{AreClosed, IsTakenOn}
+-- What is left of the last state has the nodes of each pair in one class, as all unifiers have them.
+use Rattle.std.proofs.Common.{◌<◌, length, All, sym, subst, zero-le, None}
+use Rattle.fvn_combine_tree.specs.Trees.{AreClosed, SomeOpenAtTop, AreMet, IsTakenOn}
 use Rattle.fvn_combine.specs.Tasks.{Combining}
 use Rattle.fvn_combine.specs.Search.{IsAdmitted, IsLeft}
 use Rattle.fvn_combine.specs.inner.Found.{IsStep}
@@ -13,11 +13,13 @@ use Rattle.fvn_combine.proofs.stepping.meet_last.Goals as goal
 pub meet-requires : goal.meet-requires
 meet-requires c =
     let l = c.requires.looked in
+    let m = l.looked in
+    let pairs = sym c.as_slice.ensures.value in
     record {
       closed = subst (λ (k : Combining). AreClosed k.declarations k.table c.args.tree.now) (sym c.task.view_is) c.requires.closed;
-      left = subst (λ (k : Combining). c.args.i < length k.table.nodes) (sym c.task.view_is) l.looked.0;
-      right = subst (λ (k : Combining). c.args.j < length k.table.nodes) (sym c.task.view_is) l.looked.1;
-      «open» = record { below = l.below; top = l.last; is = l.is; open_there = l.looked.2 };
+      within = subst (λ (k : Combining). All (λ p. (p.0 < length k.table.nodes) × (p.1 < length k.table.nodes)) c.as_slice.result.now) (sym c.task.view_is)
+          (subst (All (λ p. (p.0 < length c.args.task.now.table.nodes) × (p.1 < length c.args.task.now.table.nodes))) pairs m.within);
+      some_open = subst (SomeOpenAtTop c.args.tree.now) pairs (m.some_open.0, m.some_open.1, m.some_open.2, record { below = l.below; top = l.last; is = l.is; open_there = m.some_open.3 });
     }
 
 pub returns-clause-closed : goal.returns-clause-closed
@@ -30,13 +32,13 @@ pub returns-clause-stepped : goal.returns-clause-stepped
 returns-clause-stepped c =
     let k = c.args.task.now in
     let l = c.requires.looked in
-    let Holds : (ℕ → ℕ) → Type 0 = λ class. class c.args.i ≡ class c.args.j in
-    let taken = subst (λ (k : Combining). IsTakenOn k.declarations k.table Holds c.args.tree.now c.meet.new.self) c.task.view_is c.in_ok-meet.ensures.met in
+    let Holds = AreMet c.args.pairs.items in
+    let taken = subst (λ (k : Combining). IsTakenOn k.declarations k.table Holds c.args.tree.now c.meet.new.self) c.task.view_is (subst (λ pairs. IsTakenOn c.task.inside.sig.now c.task.inside.table (AreMet pairs) c.args.tree.now c.meet.new.self) c.as_slice.ensures.value c.in_ok-meet.ensures.met) in
     let falls = c.in_ok-meet.ensures.falls in
     subst (λ l. IsStep k c.args.tree.now c.args.leaf.now c.meet.new.self l More) (sym c.close_leaf.ensures) (
       falls,
       tt,
       holds_both k (IsAdmitted k c.args.tree.now) (IsLeft k c.meet.new.self None)
-          (after_taking_on k c.recall.ensures c.unifiers_partition.ensures c.args.tree.now c.meet.new.self Holds taken l.below l.last l.is l.looked.3),
+          (after_taking_on k c.recall.ensures c.unifiers_partition.ensures c.args.tree.now c.meet.new.self Holds taken l.below l.last l.is l.looked.met),
       left_falls k c.args.tree.now c.meet.new.self c.args.leaf.now None falls zero-le,
     )
