@@ -32,7 +32,15 @@ EXTENDED = {
 """
 }
 # Modules that are another one with a declaration more.
-DERIVED = {"tuple": ("enc", "  op t : Msg Msg -> Msg .\n")}
+DERIVED = {
+    "tuple": ("enc", "  op t : Msg Msg -> Msg .\n"),
+    "rest": (
+        "bag",
+        "  op h : Bag Bag -> Bag .\n"
+        + "  ops " + " ".join(f"c{i}" for i in range(32)) + " : -> Bag .\n"
+        + "  eq _`,_(X,h(a,b)) = _`,_(X,a) [variant] .\n",
+    ),
+}
 
 
 def text_of(name, more=""):
@@ -56,6 +64,19 @@ def beside(n):
     for i in range(n - 1, 0, -1):
         term = f"t(dec(X{i}:Msg,K{i}:Key),{term})"
     return term
+
+
+def alike(n):
+    """n times one decryption beside each other."""
+    term = "dec(X,K:Key)"
+    for _ in range(n - 1):
+        term = f"t(dec(X,K:Key),{term})"
+    return term
+
+
+def constants(n):
+    """A variable beside n constants."""
+    return "_`,_(Y:Bag," + ",".join(f"c{i}" for i in range(n)) + ")"
 
 
 def number(n):
@@ -93,6 +114,8 @@ PROBLEMS += [("enc", "vunify", "dec(X,Y) =? a /\\ dec(dec(M,Y),K) =? X", [])]
 PROBLEMS += [("enc", "vunify", "dec(X,Y) =? a /\\ dec(dec(M,Y),K) =? X /\\ dec(M,k) =? X", [])]
 PROBLEMS += [("tuple", "variants", beside(n), []) for n in (2, 3, 4, 5, 6)]
 PROBLEMS += [("tuple", "vunify", f"{beside(n)} =? U:Msg", []) for n in (2, 4, 6)]
+PROBLEMS += [("tuple", "variants", alike(n), []) for n in (8, 32, 64)]
+PROBLEMS += [("rest", "variants", constants(n), []) for n in (4, 8, 12, 32)]
 PROBLEMS += [("plus", "variants", "+(X,Y)", ["--levels", str(n)]) for n in (1, 2, 4, 8, 16, 32)]
 PROBLEMS += [("plus", "vunify", f"+(X,Y) =? {number(n - 1)}", ["--levels", str(n)]) for n in (2, 4, 8)]
 PROBLEMS += [("group", "variants", text, []) for text in ("i(X)", "_+_(X,a)", "_+_(X,i(Y))", "_+_(X,Y)")]

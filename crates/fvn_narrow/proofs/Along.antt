@@ -1,8 +1,8 @@
--- The turns along one path, in one member, and in all of them.
-use Rattle.std.proofs.Common.{◌≡◌, ◌≤◌, ◌<◌, ◌+◌, ℕ, zero, suc, List, [], ◌∷◌, map, length, get_or, None, Some, refl, sym, ap, ◌∙◌, subst, arith}
+-- The forms at the ends of paths, and the turns at them.
+use Rattle.std.proofs.Common.{◌≡◌, ◌<◌, ◌+◌, ℕ, zero, suc, List, [], ◌∷◌, map, length, get_or, Some, refl, sym, ap, ◌∙◌, subst, arith}
 use Rattle.std.specs.Prelude.{Contains, slice_get}
-use Rattle.std.proofs.lemmas.Option.{slice_get_within, slice_get_read}
-use Rattle.std.proofs.lemmas.List.Elements.{Contains-append_left, Contains-append_right}
+use Rattle.std.proofs.lemmas.Option.{slice_get_read}
+use Rattle.std.proofs.lemmas.List.Elements.{All-contains, Contains-append_left, Contains-append_right}
 use Rattle.fvn_base.proofs.Membership.{contains_here, contains_later, contains_map}
 use Rattle.fvn_terms.specs.declared.plain.OpId.{OpId}
 use Rattle.fvn_terms.specs.Substitution.{Substitution}
@@ -15,20 +15,17 @@ use Rattle.fvn_rewrite_rules.specs.Given.{headed}
 use Rattle.fvn_rewrite.specs.Usable.{Rewriting, equations_by}
 use Rattle.fvn_cover.specs.declared.variant.Variant.{Variant}
 use Rattle.fvn_exploring.specs.Children.{narrowed}
-use Rattle.fvn_exploring.specs.declared.ends.ExpandEnd.TheVariants.{Whole}
 use Rattle.fvn_exploring.specs.declared.ends.Expansion.{Expansion}
-use Rattle.fvn_places.specs.Paths.{LeadsTo, LeadsNowhere, paths, paths_from}
+use Rattle.fvn_places.specs.Paths.{LeadsTo, paths, paths_from}
 use Rattle.fvn_narrow_children.specs.Starts.{IsStartOf}
 use Rattle.fvn_narrow_children.specs.Values.{AreIrreducible}
-use Rattle.fvn_places.proofs.PathFacts.{leads_once}
-use Rattle.fvn_narrow.specs.inner.Turns.{Turn, try_of, IsReady, IsTurnAt, TryLiftsByParts, TurnLifts, ForEach, AreFound, IsTryOf, IsThrough, IsAlong, IsInMember, IsAmongFirst, IsAny}
-use Rattle.fvn_narrow.proofs.Joined.{AreSoFar, nothing_found, all_found, found_so}
+use Rattle.fvn_narrow.specs.declared.placing.Place.{Place}
+use Rattle.fvn_narrow.specs.inner.Placing.{IsPlaceIn, ArePlaces, IsTryIn}
+use Rattle.fvn_narrow.specs.inner.Turns.{try_of, IsReady, TryLiftsByParts, TurnLifts, ForEach, AreFound, IsAny}
+use Rattle.fvn_narrow.proofs.Joined.{found_so}
 
 one_form : (a b : FlatTerm) → Some a ≡ Some b → a ≡ b
 one_form a b e = cc
-
-none_is_some : (f : OpId) → None ≡ Some f → ⊥
-none_is_some f e = cc
 
 one_operator : (f g : OpId) → Some f ≡ Some g → f ≡ g
 one_operator f g e = cc
@@ -58,60 +55,18 @@ leads_listed (i ∷ path) (fapp g joined ts) at f h e =
     contains_later [] (paths_from 0 ts) (i ∷ path)
     (subst (λ n. Contains (paths_from 0 ts) (n ∷ path)) at_i (listed_from 0 ts i h.0 h.1 path (leads_listed path h.0 at f h.2 e)))
 
-module _ (r : Rewriting) (unifiers : ℕ) (drawn : Problem → Substitution → Type 0) (v : Variant) where
-  module _ (member : ℕ) (term : FlatTerm) (is : slice_get v.terms member ≡ Some term) where
-    same_term : (turn : Turn) → turn.member ≡ member → (there : FlatTerm) → (t : IsTurnAt r v there turn) → t.term ≡ term
-    same_term turn m there t = one_form t.term term (sym t.is ∙ ap (slice_get v.terms) m ∙ is)
-
-    -- along one path
-    module _ (path : List ℕ) where
-      abbrev Lift : List Variant → Type 0
-      Lift = ForEach (TurnLifts r unifiers v) (IsAlong member path)
-
-      at_end : (turn : Turn) → IsAlong member path turn → (there : FlatTerm) → IsTurnAt r v there turn → turn.beside ≡ None → LeadsTo path term there
-      at_end turn a there t alone =
-          let all : t.whole ≡ there = subst (IsPartOf t.whole there) alone t.part in
-          subst (LeadsTo path term) all (subst (λ w. LeadsTo path w t.whole) (same_term turn a.0 there t) (subst (λ p. LeadsTo p t.term t.whole) a.1 t.leads))
-
-      pub nowhere : LeadsNowhere path term → (e : Expansion) → e.children ≡ [] → e.end ≡ Whole → AreFound r unifiers drawn v Lift e
-      nowhere none e children whole =
-          nothing_found r unifiers drawn v Lift e children whole (λ turn a there t alone. absurd (none there (at_end turn a there t alone)))
-
-      module _ (at : FlatTerm) (leads : LeadsTo path term at) where
-        one_end : (turn : Turn) → IsAlong member path turn → (there : FlatTerm) → (t : IsTurnAt r v there turn) → turn.beside ≡ None → at ≡ there
-        one_end turn a there t alone = leads_once path term at there leads (at_end turn a there t alone)
-
-        -- a variable has no turn
-        pub headless : head_of at ≡ None → (e : Expansion) → e.children ≡ [] → e.end ≡ Whole → AreFound r unifiers drawn v Lift e
-        headless none e children whole =
-            nothing_found r unifiers drawn v Lift e children whole (λ turn a there t alone. absurd (none_is_some t.operator (sym none ∙ ap head_of (one_end turn a there t alone) ∙ t.heads)))
-
-        -- those by all needed rules
-        pub along : (f : OpId) → head_of at ≡ Some f → (e : Expansion) → AreFound r unifiers drawn v (ForEach (TryLiftsByParts r unifiers v) (IsTryOf at (headed r.rules f))) e → AreFound r unifiers drawn v Lift e
-        along f heads e found = found_so r unifiers drawn v (ForEach (TryLiftsByParts r unifiers v) (IsTryOf at (headed r.rules f))) Lift e all found where
-          all : ForEach (TryLiftsByParts r unifiers v) (IsTryOf at (headed r.rules f)) e.children → Lift e.children
-          all h turn a there t alone =
-              let end = one_end turn a there t alone in
-              let same : t.operator ≡ f = one_operator t.operator f (sym t.heads ∙ sym (ap head_of end) ∙ heads) in
-              subst (λ w. TryLiftsByParts r unifiers v (try_of w turn.rule) e.children) end
-              (h (try_of at turn.rule) (refl, subst (λ l. Contains l turn.rule) (ap (headed r.rules) same) t.needed))
-
-    -- in one member
-    pub in_the_member : (list : List (List ℕ)) → list ≡ paths term → (children : List Variant) → AreSoFar r unifiers drawn v (ForEach (TurnLifts r unifiers v) (IsThrough member list)) children →
-        AreFound r unifiers drawn v (ForEach (TurnLifts r unifiers v) (IsInMember member)) record { children = children; end = Whole }
-    in_the_member list all children so_far = all_found r unifiers drawn v (ForEach (TurnLifts r unifiers v) (IsThrough member list)) (ForEach (TurnLifts r unifiers v) (IsInMember member)) children each so_far where
-      each : ForEach (TurnLifts r unifiers v) (IsThrough member list) children → ForEach (TurnLifts r unifiers v) (IsInMember member) children
-      each h turn m there t alone =
-          let whole : t.whole ≡ there = subst (IsPartOf t.whole there) alone t.part in
-          let listed : Contains (paths t.term) turn.path = leads_listed turn.path t.term there t.operator (subst (LeadsTo turn.path t.term) whole t.leads) t.heads in
-          h turn (m, subst (λ l. Contains l turn.path) (ap paths (same_term turn m there t) ∙ sym all) listed) there t alone
-
-  -- in all members
-  pub in_all : (count : ℕ) → length v.terms ≤ count → (children : List Variant) → AreSoFar r unifiers drawn v (ForEach (TurnLifts r unifiers v) (IsAmongFirst count)) children →
-      AreFound r unifiers drawn v (ForEach (TurnLifts r unifiers v) IsAny) record { children = children; end = Whole }
-  in_all count long children so_far =
-      all_found r unifiers drawn v (ForEach (TurnLifts r unifiers v) (IsAmongFirst count)) (ForEach (TurnLifts r unifiers v) IsAny) children
-      (λ h turn any there t alone. let low = slice_get_within v.terms turn.member t.term t.is in h turn (omega arith) there t alone) so_far
+-- what lifts at one place for each form lifts at each place of that form
+pub in_places : (r : Rewriting) (unifiers : ℕ) (drawn : Problem → Substitution → Type 0) (v : Variant) (places : List Place) → ArePlaces r.rules v.terms places →
+    (e : Expansion) → AreFound r unifiers drawn v (ForEach (TryLiftsByParts r unifiers v) (IsTryIn r.rules places)) e → AreFound r unifiers drawn v (ForEach (TurnLifts r unifiers v) IsAny) e
+in_places r unifiers drawn v places are e found = found_so r unifiers drawn v (ForEach (TryLiftsByParts r unifiers v) (IsTryIn r.rules places)) (ForEach (TurnLifts r unifiers v) IsAny) e all found where
+  all : ForEach (TryLiftsByParts r unifiers v) (IsTryIn r.rules places) e.children → ForEach (TurnLifts r unifiers v) IsAny e.children
+  all h turn any there t alone =
+      let whole : t.whole ≡ there = subst (IsPartOf t.whole there) alone t.part in
+      let leads : LeadsTo turn.path t.term there = subst (LeadsTo turn.path t.term) whole t.leads in
+      let p = are.enough turn.member there (turn.path, record { term = t.term; is = t.is; leads = leads }) record { operator = t.operator; heads = t.heads; rule = turn.rule; listed = t.needed } in
+      let q = All-contains (IsPlaceIn v.terms) places p.0 are.sound p.1 in
+      let same : t.operator ≡ p.0.head = one_operator t.operator p.0.head (sym t.heads ∙ sym (ap head_of p.2) ∙ q.heads) in
+      h (try_of there turn.rule) (p.0, p.1, (sym p.2, subst (λ f. Contains (headed r.rules f) turn.rule) same t.needed))
 
 -- a start with irreducible values is ready
 pub ready_start : (r : Rewriting) (next : ℕ) (v start : Variant) → IsStartOf r.signature next v start → AreIrreducible r.signature (equations_by r) start.vars start.subst → IsReady r start next

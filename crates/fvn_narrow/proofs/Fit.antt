@@ -30,7 +30,7 @@ use Rattle.fvn_rewrite_rules.specs.declared.rule.Rule.{Rule}
 use Rattle.fvn_rewrite_rules.specs.Given.{headed, HasOldVariables, IsNumberedRule}
 use Rattle.fvn_places.specs.Paths.{LeadsTo}
 use Rattle.fvn_places.specs.Putting.{KeepsKindsOf}
-use Rattle.fvn_narrow.specs.inner.Turns.{Turn, put_in, CanStandBeside, IsTurnAt}
+use Rattle.fvn_narrow.specs.inner.Turns.{Turn, put_in, CanStandBeside, IsTurnAt, IsMeetingAt}
 use Rattle.fvn_narrow.proofs.Turning.{IsFitTurn}
 use Rattle.fvn_narrow.proofs.Beside.{part_fits, occurs_in_whole, given_fits, given_keeps, given_occurs, can_stand}
 
@@ -77,22 +77,42 @@ module _ (r : Rewriting) (good : IsGood r.signature) (usable : AreUsable r.signa
   abbrev d : Declarations
   d = r.signature
 
-  numbered : (f : OpId) (rule : Rule) → Contains (headed r.rules f) rule → IsNumberedRule d r.rules.equations rule
-  numbered f rule listed = All-contains (IsNumberedRule d r.rules.equations) r.rules.rules rule usable.rules.sound (usable.rules.given f rule listed).0
+  numbered : (rule : Rule) → Contains r.rules.rules rule → IsNumberedRule d r.rules.equations rule
+  numbered rule listed = All-contains (IsNumberedRule d r.rules.equations) r.rules.rules rule usable.rules.sound listed
 
-  is_rule : (f : OpId) (rule : Rule) → Contains (headed r.rules f) rule → IsRuleOf d (equations_by r) rule.left rule.right
-  is_rule f rule listed =
-      let n = numbered f rule listed in
+  is_rule : (rule : Rule) → Contains r.rules.rules rule → IsRuleOf d (equations_by r) rule.left rule.right
+  is_rule rule listed =
+      let n = numbered rule listed in
       (sides_of n.equation, contains_map sides_of r.rules.equations n.equation (item_in r.rules.equations n.before n.equation n.is), n.made)
 
-  -- the left side of a needed rule fits
-  pub needed_fits : (f : OpId) (rule : Rule) → Contains (headed r.rules f) rule → Fits d rule.left
-  needed_fits f rule listed =
-      let n = numbered f rule listed in
-      let sides = rules.kinds rule.left rule.right (is_rule f rule listed) in
+  -- the left side of a rule fits
+  pub left_side_fits : (rule : Rule) → Contains r.rules.rules rule → Fits d rule.left
+  left_side_fits rule listed =
+      let n = numbered rule listed in
+      let sides = rules.kinds rule.left rule.right (is_rule rule listed) in
       record { flat = (rule_settled d (sides_of n.equation) rule.left rule.right n.made).0; kinded = (sides.kind, sides.left) }
 
-  module _ (v : Variant) (terms : AllFit r.signature v.terms) (at : FlatTerm) (turn : Turn) (t : IsTurnAt r v at turn) where
+  -- so does that of a needed one
+  pub needed_fits : (f : OpId) (rule : Rule) → Contains (headed r.rules f) rule → Fits d rule.left
+  needed_fits f rule needed = left_side_fits rule (usable.rules.given f rule needed).0
+
+  -- a needed rule is one of all, and its left side has the head under which it is needed
+  pub meeting_of : (v : Variant) (at : FlatTerm) (turn : Turn) → IsTurnAt r v at turn → IsMeetingAt r v at turn
+  meeting_of v at turn t =
+      let given = usable.rules.given t.operator turn.rule t.needed in record {
+        term = t.term;
+        is = t.is;
+        whole = t.whole;
+        leads = t.leads;
+        part = t.part;
+        left = t.left;
+        operator = t.operator;
+        heads = t.heads;
+        listed = given.0;
+        left_heads = given.1;
+      }
+
+  module _ (v : Variant) (terms : AllFit r.signature v.terms) (at : FlatTerm) (turn : Turn) (t : IsMeetingAt r v at turn) where
     whole_fits : Fits d t.whole
     whole_fits = path_fits d good.fits turn.path t.term t.whole (fits_in v.terms t.term terms (item_in v.terms turn.member t.term t.is)) t.leads
 
@@ -102,25 +122,22 @@ module _ (r : Rewriting) (good : IsGood r.signature) (usable : AreUsable r.signa
     pub at_within : (x : Var) → Occurs x (plain at) → Occurs x (plain t.whole)
     at_within x o = occurs_in_whole d good t.whole at whole_fits turn.beside t.part x o
 
-    left_head : head_of turn.rule.left ≡ Some t.operator
-    left_head = (usable.rules.given t.operator turn.rule t.needed).1
-
     module _ (left_flat : Settled d turn.rule.left) (rule : IsRuleOf d (equations_by r) turn.rule.left turn.rule.right) where
       -- part, left side and right side have one kind
       kinds_agree : (k : SortId) → HasKind d (plain at) k → HasKind d (plain turn.rule.left) k × HasKind d (plain turn.rule.right) k
       kinds_agree k h =
           let sides = rules.kinds turn.rule.left turn.rule.right rule in
-          let e : sides.kind ≡ k = one_kind d good.fits t.operator turn.rule.left at left_flat at_fits.flat left_head t.heads sides.kind k sides.left h in
+          let e : sides.kind ≡ k = one_kind d good.fits t.operator turn.rule.left at left_flat at_fits.flat t.left_heads t.heads sides.kind k sides.left h in
           (subst (HasKind d (plain turn.rule.left)) e sides.left, subst (HasKind d (plain turn.rule.right)) e sides.right)
 
     left_settled : Settled d turn.rule.left
-    left_settled = let n = numbered t.operator turn.rule t.needed in (rule_settled d (sides_of n.equation) turn.rule.left turn.rule.right n.made).0
+    left_settled = let n = numbered turn.rule t.listed in (rule_settled d (sides_of n.equation) turn.rule.left turn.rule.right n.made).0
 
     right_settled : Settled d turn.rule.right
-    right_settled = let n = numbered t.operator turn.rule t.needed in (rule_settled d (sides_of n.equation) turn.rule.left turn.rule.right n.made).1
+    right_settled = let n = numbered turn.rule t.listed in (rule_settled d (sides_of n.equation) turn.rule.left turn.rule.right n.made).1
 
     rule_here : IsRuleOf d (equations_by r) turn.rule.left turn.rule.right
-    rule_here = is_rule t.operator turn.rule t.needed
+    rule_here = is_rule turn.rule t.listed
 
     pub same_kind : (k : SortId) → HasKind d (plain at) k → HasKind d (plain turn.rule.left) k × HasKind d (plain turn.rule.right) k
     same_kind = kinds_agree left_settled rule_here
@@ -136,7 +153,7 @@ module _ (r : Rewriting) (good : IsGood r.signature) (usable : AreUsable r.signa
         let k = rules.kinds turn.rule.left turn.rule.right rule_here in record {
           turn_is = t;
           rule = rule_here;
-          old = All-contains HasOldVariables r.rules.rules turn.rule usable.rules.old (usable.rules.given t.operator turn.rule t.needed).0;
+          old = All-contains HasOldVariables r.rules.rules turn.rule usable.rules.old t.listed;
           whole_fits = whole_fits;
           at_fits = at_fits;
           left_fits = record { flat = left_settled; kinded = (k.kind, k.left) };

@@ -7,6 +7,7 @@ use Rattle.fvn_base.proofs.Membership.{contains_none, contains_cases}
 use Rattle.fvn_terms.specs.Substitution.{Substitution}
 use Rattle.fvn_terms.specs.Unifiers.{Problem}
 use Rattle.fvn_rewrite_rules.specs.declared.rule.Rule.{Rule}
+use Rattle.fvn_rewrite_rules.specs.Given.{RuleLists, headed}
 use Rattle.fvn_rewrite.specs.Usable.{Rewriting}
 use Rattle.fvn_forms.specs.Flat.{FlatTerm}
 use Rattle.fvn_cover.specs.declared.variant.Variant.{Variant}
@@ -17,7 +18,9 @@ use Rattle.fvn_exploring.specs.declared.ends.ExpandEnd.TheVariants.{Whole}
 use Rattle.fvn_exploring.specs.declared.ends.Expansion.{Expansion}
 use Rattle.fvn_narrow.specs.Settings.{narrowing_setting}
 use Rattle.fvn_narrow.specs.inner.Joining.{AreJoined}
-use Rattle.fvn_narrow.specs.inner.Turns.{Turn, Try, try_of, IsStepChild, IsOfStep, EndsAs, TryLifts, TryLiftsAmong, TryLiftsByParts, TurnLifts, ForEach, AreFound, IsTryOf, IsThrough, IsAmongFirst}
+use Rattle.fvn_narrow.specs.inner.Turns.{Try, try_of, IsStepChild, IsOfStep, EndsAs, TryLifts, TryLiftsAmong, TryLiftsByParts, ForEach, AreFound, IsTryOf}
+use Rattle.fvn_narrow.specs.inner.Placing.{IsTryIn}
+use Rattle.fvn_narrow.specs.declared.placing.Place.{Place}
 
 -- some of a list is some of a longer one
 any_left : {A : Type 0} {P : A → Type 0} (xs ys : List A) → Any P xs → Any P (xs ++ ys)
@@ -49,6 +52,10 @@ module _ (r : Rewriting) (unifiers : ℕ) (drawn : Problem → Substitution → 
   -- where nothing stopped
   pub all_found : (Before Holds : List Variant → Type 0) (children : List Variant) → (Before children → Holds children) → AreSoFar Before children → AreFound r unifiers drawn v Holds record { children = children; end = Whole }
   all_found Before Holds children f so_far = record { children = so_far.children_are; whole = λ e. f so_far.holds; cause = tt }
+
+  -- what was found so far also meets what follows from it
+  pub so_far_so : (Before Holds : List Variant → Type 0) (children : List Variant) → (Before children → Holds children) → AreSoFar Before children → AreSoFar Holds children
+  so_far_so Before Holds children f so_far = record { children_are = so_far.children_are; holds = f so_far.holds }
 
   -- what is found also meets what follows from it
   pub found_so : (Before Holds : List Variant → Type 0) (e : Expansion) → (Before e.children → Holds e.children) → AreFound r unifiers drawn v Before e → AreFound r unifiers drawn v Holds e
@@ -128,14 +135,8 @@ module _ (r : Rewriting) (unifiers : ℕ) (v : Variant) where
     ];
   }
 
-  pub turn_grows : Grows (TurnLifts r unifiers v)
-  turn_grows = record {
-    left = λ before more turn h at is alone. parts_grow.left before more (try_of at turn.rule) (h at is alone);
-    right = λ before more turn h at is alone. parts_grow.right before more (try_of at turn.rule) (h at is alone);
-  }
-
 -- the last of the first ones, or an earlier one
-last_or_earlier : {A : Type 0} (xs : List A) (i : ℕ) (x y : A) → i < length xs → x ≡ get_or xs i x → Contains (take (i + 1) xs) y → Contains (take i xs) y ⊎ (x ≡ y)
+pub last_or_earlier : {A : Type 0} (xs : List A) (i : ℕ) (x y : A) → i < length xs → x ≡ get_or xs i x → Contains (take (i + 1) xs) y → Contains (take i xs) y ⊎ (x ≡ y)
 last_or_earlier xs i x y within is c = go (Contains-append_cases (take i xs) (x ∷ []) y (subst (λ l. Contains l y) (take_more xs i x within ∙ ap (λ z. take i xs ++ z ∷ []) (sym is)) c))
   where
     go : Contains (take i xs) y ⊎ Contains (x ∷ []) y → Contains (take i xs) y ⊎ (x ≡ y)
@@ -152,12 +153,12 @@ rule_more at rules i rule within is try c = elim (last_or_earlier rules i rule t
   | inr e ↦ inr (λ k. record { at = c.0 k; rule = sym e k })
 ]
 
--- one path more
-pub path_more : (member : ℕ) (paths : List (List ℕ)) (i : ℕ) (path : List ℕ) → i < length paths → path ≡ get_or paths i path → (turn : Turn) → IsThrough member (take (i + 1) paths) turn →
-    IsThrough member (take i paths) turn ⊎ ((turn.member ≡ member) × (turn.path ≡ path))
-path_more member paths i path within is turn c = elim (last_or_earlier paths i path turn.path within is c.1) [
-  | inl h ↦ inl (c.0, h)
-  | inr e ↦ inr (c.0, sym e)
+-- one place more
+pub place_more : (rules : RuleLists) (places : List Place) (i : ℕ) (place : Place) → i < length places → place ≡ get_or places i place → (try : Try) → IsTryIn rules (take (i + 1) places) try →
+    IsTryIn rules (take i places) try ⊎ IsTryOf place.at.now (headed rules place.head) try
+place_more rules places i place within is try c = elim (last_or_earlier places i place c.0 within is c.1) [
+  | inl h ↦ inl (c.0, h, c.2)
+  | inr e ↦ inr (subst (λ p. IsTryOf p.at.now (headed rules p.head) try) (sym e) c.2)
 ]
 
 pub less_or_equal : (m n : ℕ) → m < n + 1 → (m < n) ⊎ (m ≡ n)
@@ -165,10 +166,6 @@ less_or_equal zero zero h = inr refl
 less_or_equal zero (suc n) h = inl (omega arith)
 less_or_equal (suc m) zero h = absurd (omega arith)
 less_or_equal (suc m) (suc n) h = elim (less_or_equal m n (omega (arith, h))) [ inl l ↦ inl (omega (arith, l)) | inr e ↦ inr (ap suc e) ]
-
--- one member more
-pub member_more : (i : ℕ) (turn : Turn) → IsAmongFirst (i + 1) turn → IsAmongFirst i turn ⊎ (turn.member ≡ i)
-member_more i turn c = less_or_equal turn.member i c
 
 -- what the test for a whole end denies
 pub not_whole : (b : Bool) (end : ExpandEnd) → IsTrue b ↔ (end ≡ Whole) → b ≡ false → end ≡ Whole → ⊥

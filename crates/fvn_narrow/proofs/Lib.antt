@@ -11,6 +11,7 @@ mod RuleTurn
 mod Found
 mod Joined
 mod Along
+mod Placed
 mod Backwards
 mod Expanded
 mod Keeping

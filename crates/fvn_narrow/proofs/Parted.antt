@@ -15,7 +15,7 @@ use Rattle.fvn_terms.specs.Substitution.{same_var, Occurs}
 use Rattle.fvn_terms.specs.Signature.{kind, axioms, IsSort, HasKind}
 use Rattle.fvn_terms.specs.Equality.{IsAssociative, identity}
 use Rattle.fvn_terms.proofs.Variables.{same_var_is}
-use Rattle.fvn_forms.specs.Flat.{FlatTerm, fvar, fapp, fpack, plain}
+use Rattle.fvn_forms.specs.Flat.{FlatTerm, fvar, fapp, plain}
 use Rattle.fvn_forms.specs.Canon.{build, inst}
 use Rattle.fvn_forms.specs.Settled.{Settled}
 use Rattle.fvn_forms.specs.Good.{IsGood}

@@ -27,7 +27,7 @@ use Rattle.fvn_exploring.specs.declared.ends.Expansion.{Expansion}
 use Rattle.fvn_exploring.specs.declared.ends.ExpandEnd.TheVariants.{Whole}
 use Rattle.fvn_places.specs.Clashes.{NeverMeet}
 use Rattle.fvn_places.proofs.PathFacts.{stands_at}
-use Rattle.fvn_narrow.specs.inner.Turns.{Turn, put_in, IsReady, CanStandBeside, IsTurnAt, CanReplace, try_of, TryLifts, AreFound}
+use Rattle.fvn_narrow.specs.inner.Turns.{Turn, put_in, IsReady, CanStandBeside, IsMeetingAt, CanReplace, try_of, TryLifts, AreFound}
 use Rattle.fvn_narrow.proofs.Turning.{IsFitTurn}
 use Rattle.fvn_narrow.proofs.Fit.{fit_turn, same_kind, put_keeps, right_stands, at_within}
 use Rattle.fvn_narrow.proofs.Children.{item_listed}
@@ -51,7 +51,7 @@ in_either x t u m = elim (Contains-append_cases (variables t ++ variables u) [] 
     side (inl c) = inl (variables_occur x t c)
     side (inr c) = inr (variables_occur x u c)
 
-module _ (r : Rewriting) (good : IsGood r.signature) (usable : AreUsable r.signature r.rules) (rules : RuleLaws r.signature (equations_by r)) (v : Variant) (next : ℕ) (ready : IsReady r v next) (at : FlatTerm) (turn : Turn) (t : IsTurnAt r v at turn) where
+module _ (r : Rewriting) (good : IsGood r.signature) (usable : AreUsable r.signature r.rules) (rules : RuleLaws r.signature (equations_by r)) (v : Variant) (next : ℕ) (ready : IsReady r v next) (at : FlatTerm) (turn : Turn) (t : IsMeetingAt r v at turn) where
   abbrev d : Declarations
   d = r.signature
 

@@ -12,7 +12,7 @@ use Rattle.fvn_flat.specs.Solving.{substitution, Binds, IsNumbered}
 use Rattle.fvn_cover.specs.declared.variant.Variant.{Variant}
 use Rattle.fvn_rewrite.specs.Usable.{Rewriting, equations_by}
 use Rattle.fvn_rewrite_rules.specs.Given.{HasOldVariables}
-use Rattle.fvn_narrow.specs.inner.Turns.{Turn, put_in, IsTurnAt}
+use Rattle.fvn_narrow.specs.inner.Turns.{Turn, put_in, IsMeetingAt}
 
 -- the problem of a part and a left side
 abbrev pub problem_at : FlatTerm → FlatTerm → Problem
@@ -20,7 +20,7 @@ problem_at at left = (plain at, plain left) ∷ []
 
 -- a turn with a rule of the equations, whose variables are old; what is met fits
 pub record IsFitTurn (r : Rewriting) (v : Variant) (at : FlatTerm) (turn : Turn) : Type 0 where
-  pub turn_is : IsTurnAt r v at turn
+  pub turn_is : IsMeetingAt r v at turn
   pub rule : IsRuleOf r.signature (equations_by r) turn.rule.left turn.rule.right
   pub old : HasOldVariables turn.rule
   pub whole_fits : Fits r.signature turn_is.whole

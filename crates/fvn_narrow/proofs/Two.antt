@@ -1,7 +1,7 @@
 -- Two summands of a sum, as a part of it.
-use Rattle.std.proofs.Common.{◌≡◌, ◌⊎◌, ◌<◌, ◌≤◌, ◌+◌, ◌-◌, ℕ, true, false, List, [], ◌∷◌, ◌++◌, take, drop, length, Some, refl, sym, ap, ◌∙◌, subst, inl, inr, arith}
+use Rattle.std.proofs.Common.{◌≡◌, ◌⊎◌, ◌<◌, ◌≤◌, ◌+◌, ◌-◌, ℕ, true, false, List, [], ◌∷◌, ◌++◌, take, drop, length, get_or, Some, refl, sym, ap, ◌∙◌, subst, inl, inr, arith}
 use Rattle.std.specs.Prelude.{All, Contains, slice_get}
-use Rattle.std.proofs.lemmas.Option.{slice_get_within}
+use Rattle.std.proofs.lemmas.Option.{slice_get_within, slice_get_read}
 use Rattle.std.proofs.lemmas.List.Elements.{All-weaker, All-contains_itself}
 use Rattle.fvn_terms.specs.declared.plain.OpId.{OpId}
 use Rattle.fvn_terms.specs.declared.declarations.Declarations.{Declarations}
@@ -22,7 +22,7 @@ use Rattle.fvn_lifting.specs.Pairs.{IsPairOf}
 use Rattle.fvn_lifting.proofs.Parts.{part_settled, taken_fit, taken_takes}
 use Rattle.fvn_lifting.proofs.PairForms.{joined_form, divided_length}
 use Rattle.fvn_lifting.proofs.PairSteps.{pair_part}
-use Rattle.fvn_narrow.specs.inner.Pairing.{IsFitSum, AreOthers}
+use Rattle.fvn_narrow.specs.inner.Pairing.{IsFitSum, AreOthers, StandsAgain}
 use Rattle.fvn_narrow.specs.inner.Turns.{Try, turn_of, IsTurnAt, IsSumAt, IsPairAt, IsTryAt, IsTryOf, IsTryFrom, IsTryBefore, TryLifts, TryLiftsUnless, ForEach}
 use Rattle.fvn_narrow.proofs.Children.{item_listed, fits_at}
 use Rattle.fvn_narrow.proofs.Fit.{path_fits}
@@ -174,4 +174,44 @@ pub first_more : (f : OpId) (ts : List FlatTerm) (rules : List Rule) (i : ℕ) (
 first_more f ts rules i try c = elim (less_or_equal c.0 i c.1) [
   | inl k ↦ inl (c.0, k, c.2)
   | inr e ↦ inr (subst (λ m. IsTryFrom f ts rules (m, length ts) try) e c.2)
+]
+
+-- a form that is the one before it
+pub again_at : (ts : List FlatTerm) (first place : ℕ) (t u : FlatTerm) → first < place → place < length ts → t ≡ get_or ts (place - 1) t → u ≡ get_or ts place u → t ≡ u → StandsAgain ts first place
+again_at ts first place t u behind within t_is u_is same =
+    record {
+      before = place - 1;
+      behind = omega (arith, behind);
+      next = omega (arith, behind);
+      again = slice_get_read ts (length ts) (place - 1) t refl (omega (arith, within)) t_is ∙ ap Some same ∙ sym (slice_get_read ts (length ts) place u refl within u_is);
+    }
+
+-- what is tried at a pair is tried at one with a form that stands there again
+second_again : (f : OpId) (ts : List FlatTerm) (rules : List Rule) (i j k : ℕ) → slice_get ts k ≡ slice_get ts j → (try : Try) → IsTryAt f ts rules (i, j) try → IsTryAt f ts rules (i, k) try
+second_again f ts rules i j k again try c =
+    let p = c.0 in
+    (record { first = p.first; second = p.second; at_first = p.at_first; at_second = again ∙ p.at_second; is = p.is }, c.1)
+
+first_again : (f : OpId) (ts : List FlatTerm) (rules : List Rule) (i j k : ℕ) → slice_get ts k ≡ slice_get ts i → (try : Try) → IsTryAt f ts rules (i, j) try → IsTryAt f ts rules (k, j) try
+first_again f ts rules i j k again try c =
+    let p = c.0 in
+    (record { first = p.first; second = p.second; at_first = again ∙ p.at_first; at_second = p.at_second; is = p.is }, c.1)
+
+-- so pairs with it are among those before
+pub pair_again : (f : OpId) (ts : List FlatTerm) (rules : List Rule) (i j : ℕ) → StandsAgain ts (i + 1) j → (try : Try) → IsTryFrom f ts rules (i, j + 1) try → IsTryFrom f ts rules (i, j) try
+pair_again f ts rules i j a try c = elim (pair_more f ts rules i j try c) [
+  | inl k ↦ k
+  | inr n ↦
+      let behind = a.behind in
+      let next = a.next in
+      (a.before, omega (arith, behind), (omega (arith, next), second_again f ts rules i j a.before a.again try n))
+]
+
+pub first_pairs_again : (f : OpId) (ts : List FlatTerm) (rules : List Rule) (i : ℕ) → StandsAgain ts 0 i → (try : Try) → IsTryBefore f ts rules (i + 1) try → IsTryBefore f ts rules i try
+first_pairs_again f ts rules i a try c = elim (first_more f ts rules i try c) [
+  | inl k ↦ k
+  | inr n ↦
+      let next = a.next in
+      let later = n.1 in
+      (a.before, omega (arith, next), (n.0, omega (arith, next, later), (n.2.0, first_again f ts rules i n.0 a.before a.again try n.2.1)))
 ]

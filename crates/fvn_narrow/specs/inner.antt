@@ -2,5 +2,6 @@
 pub mod Ends
 pub mod Joining
 pub mod Pairing
+pub mod Placing
 pub mod Serving
 pub mod Turns

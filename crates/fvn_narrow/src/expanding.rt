@@ -1,10 +1,13 @@
 //! All children of a variant: every part of its terms, with every rule that is needed there.
-ghost use Rattle.std.specs.Prelude.{◌<◌, length, IfOk};
+ghost use Rattle.std.specs.Prelude.{All, IfOk};
+ghost use Rattle.fvn_rewrite_rules.specs.Given.{headed};
 ghost use Rattle.fvn_exploring.specs.Expansions.{IsExpandable, IsExpansionOf};
 ghost use Rattle.fvn_narrow.specs.Settings.{narrowing_setting};
-ghost use Rattle.fvn_narrow.specs.inner.Turns.{IsReady, IsAlong, IsInMember, IsAny, ForEach, TurnLifts, AreFound};
+ghost use Rattle.fvn_narrow.specs.inner.Placing.{IsPlaceIn, IsTryIn};
+ghost use Rattle.fvn_narrow.specs.inner.Turns.{IsReady, IsTryOf, IsAny, ForEach, TryLiftsByParts, TurnLifts, AreFound};
 
 use crate::dividing::at_form;
+use crate::placing::{Place, all_places};
 use crate::posing::is_whole;
 use crate::stepping::Part;
 use crate::tools::{Solves, Tools};
@@ -15,62 +18,53 @@ use fvn_exploring::{ExpandEnd, Expansion};
 use fvn_flat::Subst;
 use fvn_lifting::{renamed_forms_have_the_same_instances, whole_expansions_lift};
 use fvn_narrow_children::{Start, no_children, some_reducible, start_of};
-use fvn_places::{form_at, paths};
 use fvn_rewrite_coherence::rules_are_coherent;
 use fvn_rewrite_laws::sequences_are_lawful;
 use fvn_terms::NoMemory;
 use std::alloc::Global;
 
-// The children at the part to which a path leads.
-fn at_path<S: Solves>(
+// The children at a place.
+fn at_place<S: Solves>(
     tools: &Tools<'_, '_, S>,
     alloc: Global,
     start: &Start,
-    member: usize,
-    path: &[usize],
+    place: &Place<'_>,
 ) -> Result<Expansion, NoMemory>
     requires ready { IsReady tools.now.rewriter.now start.now.variant start.now.next }
-    requires member { member < length start.now.variant.terms }
+    requires place { IsPlaceIn start.now.variant.terms place.now }
     ensures { IfOk result (AreFound tools.now.rewriter.now (S.most_unifiers tools.now.solver.now)
         (S.drawn tools.now.solver.now) start.now.variant
-        (ForEach (TurnLifts tools.now.rewriter.now (S.most_unifiers tools.now.solver.now)
-        start.now.variant) (IsAlong member path.now))) }
+        (ForEach (TryLiftsByParts tools.now.rewriter.now (S.most_unifiers tools.now.solver.now)
+        start.now.variant)
+        (IsTryOf place.now.at.now (headed tools.now.rewriter.now.rules place.now.head)))) }
 {
-    let term = &start.variant.terms.as_slice()[member];
-    let Some(at) = form_at(term, path) else {
-        return Ok(no_children(alloc));
-    };
-    let Some(f) = at.head() else {
-        return Ok(no_children(alloc));
-    };
     let part = Part {
-        member,
-        path,
-        at,
+        member: place.member,
+        path: place.path.as_slice(),
+        at: place.at,
         beside: None,
     };
-    let e = at_form(tools, alloc, start, &part, f)?;
+    let e = at_form(tools, alloc, start, &part, place.head)?;
     Ok(e)
 }
 
-// The children at the parts of one member, up to the first that stops.
-fn in_member<S: Solves>(
+// The children at these places, up to the first that stops.
+fn at_places<S: Solves>(
     tools: &Tools<'_, '_, S>,
     alloc: Global,
     start: &Start,
-    member: usize,
+    places: &[Place<'_>],
 ) -> Result<Expansion, NoMemory>
     requires ready { IsReady tools.now.rewriter.now start.now.variant start.now.next }
-    requires member { member < length start.now.variant.terms }
+    requires places { All (IsPlaceIn start.now.variant.terms) places.now }
     ensures { IfOk result (AreFound tools.now.rewriter.now (S.most_unifiers tools.now.solver.now)
         (S.drawn tools.now.solver.now) start.now.variant
-        (ForEach (TurnLifts tools.now.rewriter.now (S.most_unifiers tools.now.solver.now)
-        start.now.variant) (IsInMember member))) }
+        (ForEach (TryLiftsByParts tools.now.rewriter.now (S.most_unifiers tools.now.solver.now)
+        start.now.variant) (IsTryIn tools.now.rewriter.now.rules places.now))) }
 {
-    let all_paths = paths(alloc, &start.variant.terms.as_slice()[member])?;
     let mut children = Vec::new(alloc);
-    for path in &all_paths {
-        let next = at_path(tools, alloc, start, member, path.as_slice())?;
+    for place in places {
+        let next = at_place(tools, alloc, start, place)?;
         let (all, end) = with_more(children, next)?;
         children = all;
         if !is_whole(&end) {
@@ -86,8 +80,8 @@ fn in_member<S: Solves>(
     })
 }
 
-// The children in all members, up to the first that stops.
-fn in_members<S: Solves>(
+// The children in all terms, up to the first that stops; a form that stands at several places is met at the first one.
+fn in_terms<S: Solves>(
     tools: &Tools<'_, '_, S>,
     alloc: Global,
     start: &Start,
@@ -98,22 +92,11 @@ fn in_members<S: Solves>(
         (ForEach (TurnLifts tools.now.rewriter.now (S.most_unifiers tools.now.solver.now)
         start.now.variant) IsAny)) }
 {
-    let mut children = Vec::new(alloc);
-    for member in 0..start.variant.terms.len() {
-        let next = in_member(tools, alloc, start, member)?;
-        let (all, end) = with_more(children, next)?;
-        children = all;
-        if !is_whole(&end) {
-            return Ok(Expansion {
-                children: Seq::from_vec(children),
-                end,
-            });
-        }
-    }
-    Ok(Expansion {
-        children: Seq::from_vec(children),
-        end: ExpandEnd::Whole,
-    })
+    let rules = tools.rewriter.rules();
+    let terms = start.variant.terms.as_slice();
+    let places = all_places(alloc, rules, terms)?;
+    let e = at_places(tools, alloc, start, places.as_slice())?;
+    Ok(e)
 }
 
 // All children of a variant. Its variables are renamed to new ones first; where one of its values is reducible, so is
@@ -142,6 +125,6 @@ pub(crate) fn expansion<S: Solves>(
     if lost {
         return Ok(no_children(alloc));
     }
-    let e = in_members(tools, alloc, &start)?;
+    let e = in_terms(tools, alloc, &start)?;
     Ok(e)
 }

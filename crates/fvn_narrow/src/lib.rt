@@ -5,6 +5,7 @@ mod dividing;
 mod expanding;
 mod narrower;
 mod pairing;
+mod placing;
 mod posing;
 mod serving;
 mod stepping;

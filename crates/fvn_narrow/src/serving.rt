@@ -1,10 +1,10 @@
 //! Rules that serve at a form in place of others: a variable takes what two arguments of the other rule take.
-ghost use Rattle.std.specs.Prelude.{◌≡◌, Some, IsTrue, IfSome};
+ghost use Rattle.std.specs.Prelude.{◌≡◌, ◌∷◌, Some, Contains, IsTrue, IfSome};
 ghost use Rattle.fvn_flat.specs.Fits.{Fits};
 ghost use Rattle.fvn_flat.specs.Forms.{head_of, args_of};
-ghost use Rattle.fvn_narrow.specs.inner.Serving.{IsLastOfThree, HasTwoFor, HasKeptSort, ServesAt, SomeServes};
+ghost use Rattle.fvn_narrow.specs.inner.Serving.{AreBehindTwo, StandsInNone, HasTwoFor, HasLowIdentity, HasKeptSort, ServesAt, SomeServes};
 
-use crate::pairing::{has_no_identity, is_associative, summands_keep, two_of};
+use crate::pairing::{is_associative, summands_keep};
 use fvn_flat::Flat;
 use fvn_rewrite_rules::Rule;
 use fvn_signature::Signature;
@@ -20,39 +20,93 @@ fn is_headed(t: &Flat, f: OpId) -> bool
     }
 }
 
-// The last of the form's arguments, where there are three.
-fn last_of_three(t: &Flat) -> Option<&Flat>
-    ensures { IfSome result (λ u. IsLastOfThree u.now (args_of t.now)) }
+// The first of the form's arguments, and those behind it.
+fn first_of(t: &Flat) -> Option<(&Flat, &[Flat])>
+    ensures { IfSome result (λ p. args_of t.now ≡ p.0.now ∷ p.1.now) }
 {
-    let ts = t.args();
-    if ts.len() != 3 {
+    let Some((first, others)) = t.args().split_first() else {
         return None;
+    };
+    Some((first, others))
+}
+
+// What stands behind the first two of the form's arguments.
+fn behind_two(t: &Flat) -> Option<&[Flat]>
+    ensures { IfSome result (λ last. AreBehindTwo last.now (args_of t.now)) }
+{
+    let Some((_one, behind)) = first_of(t) else {
+        return None;
+    };
+    let Some((_rest, last)) = behind.split_first() else {
+        return None;
+    };
+    Some(last)
+}
+
+// Whether both lists have the same forms in the same order.
+fn are_same(ts: &[Flat], us: &[Flat]) -> bool
+    ensures { IsTrue result → (ts.now ≡ us.now) }
+{
+    if ts.len() != us.len() {
+        return false;
     }
-    Some(&ts[2])
+    for i in 0..ts.len() {
+        if !ts[i].same(&us[i]) {
+            return false;
+        }
+    }
+    true
+}
+
+// Whether the variable stands in none of the forms.
+fn stands_in_none(x: Var, ts: &[Flat]) -> bool
+    ensures { IsTrue result → StandsInNone x ts.now }
+{
+    for t in ts {
+        let within = t.has_var(x);
+        if within {
+            return false;
+        }
+    }
+    true
 }
 
 // The variable in whose place the other form has two arguments.
 fn variable_for_two(left: &Flat, other: &Flat) -> Option<Var>
     ensures { IfSome result (HasTwoFor left.now other.now) }
 {
-    let Some((first, form)) = two_of(left) else {
-        return None;
-    };
-    let Some(last) = last_of_three(other) else {
+    let Some((first, others)) = first_of(left) else {
         return None;
     };
     let Some(x) = first.as_var() else {
         return None;
     };
-    let alike = last.same(form);
+    let Some(last) = behind_two(other) else {
+        return None;
+    };
+    if others.is_empty() {
+        return None;
+    }
+    let alike = are_same(last, others);
     if !alike {
         return None;
     }
-    let within = form.has_var(x);
-    if within {
+    let outside = stands_in_none(x, others);
+    if !outside {
         return None;
     }
     Some(x)
+}
+
+// Whether the operator has no identity, or one of the sort.
+fn has_low_identity(sig: &Signature, f: OpId, s: SortId) -> bool
+    ensures { IsTrue result → HasLowIdentity sig.now f s }
+{
+    let Some(e) = sig.identity(f) else {
+        return true;
+    };
+    let low = sig.result(e, &[]);
+    sig.leq(low, s)
 }
 
 // Whether the form has the sort, which the summands of the operator keep.
@@ -64,8 +118,8 @@ fn has_kept_sort(sig: &Signature, f: OpId, s: SortId, at: &Flat) -> bool
     if !associative {
         return false;
     }
-    let lasting = has_no_identity(sig, f);
-    if !lasting {
+    let neutral = has_low_identity(sig, f, s);
+    if !neutral {
         return false;
     }
     let keep = summands_keep(sig, f, s);
@@ -105,4 +159,42 @@ pub(crate) fn some_serves(sig: &Signature, at: &Flat, rules: &[Rule], rule: &Rul
         }
     }
     false
+}
+
+// Whether the other rule is one of the same equation that serves at the form in this one's place, under an operator
+// with an identity.
+fn replaces(sig: &Signature, at: &Flat, other: &Rule, rule: &Rule) -> bool
+    requires { Fits sig.now at.now }
+    ensures { IsTrue result → ServesAt sig.now at.now other.now.left rule.now.left }
+{
+    if other.equation != rule.equation {
+        return false;
+    }
+    let Some(f) = rule.left.head() else {
+        return false;
+    };
+    if sig.identity(f).is_none() {
+        return false;
+    }
+    serves_at(sig, at, &other.left, &rule.left)
+}
+
+// The first of the rules that replaces this one at the form.
+pub(crate) fn replacement<'r>(
+    sig: &Signature,
+    at: &Flat,
+    rules: &'r [Rule],
+    rule: &Rule,
+) -> Option<&'r Rule>
+    requires { Fits sig.now at.now }
+    ensures { IfSome result (λ other.
+        Contains rules.now other.now × ServesAt sig.now at.now other.now.left rule.now.left) }
+{
+    for other in rules {
+        let serves = replaces(sig, at, other, rule);
+        if serves {
+            return Some(other);
+        }
+    }
+    None
 }

@@ -4,7 +4,7 @@ ghost use Rattle.fvn_flat.specs.Bindings.{BindingsFit};
 ghost use Rattle.fvn_flat.specs.Fits.{AllFit};
 ghost use Rattle.fvn_flat.specs.FlatPlaces.{with_beside};
 ghost use Rattle.fvn_narrow.specs.inner.Turns.{turn_of, IsReady, CanStandBeside, CanReplace, AreMembers};
-ghost use Rattle.fvn_narrow.specs.inner.Turns.{IsTurnAt, AreGrownAt, try_of, TryLifts, AreFound};
+ghost use Rattle.fvn_narrow.specs.inner.Turns.{IsMeetingAt, AreGrownAt, try_of, TryLifts, AreFound};
 
 use crate::posing::{ended, problem};
 use crate::tools::{Solves, Tools};
@@ -82,7 +82,7 @@ fn children<S: Solves>(
     unifiers: &[Subst],
 ) -> Result<Expansion, NoMemory>
     requires ready { IsReady tools.now.rewriter.now start.now.variant start.now.next }
-    requires turn { IsTurnAt tools.now.rewriter.now start.now.variant part.now.at.now
+    requires turn { IsMeetingAt tools.now.rewriter.now start.now.variant part.now.at.now
         (turn_of part.now.member part.now.path.now part.now.beside rule.now) }
     requires unifiers { All (BindingsFit tools.now.rewriter.now.signature) unifiers.now }
     ensures { IfOk result (AreGrownAt tools.now.rewriter.now start.now.variant
@@ -108,7 +108,7 @@ fn children<S: Solves>(
     Ok(e)
 }
 
-// The children by a rule that is needed under the head of a part; the solver is not asked where the two clash.
+// The children by a rule whose left side the head of a part heads; the solver is not asked where the two clash.
 pub(crate) fn by_rule<S: Solves>(
     tools: &Tools<'_, '_, S>,
     alloc: Global,
@@ -117,7 +117,7 @@ pub(crate) fn by_rule<S: Solves>(
     rule: &Rule,
 ) -> Result<Expansion, NoMemory>
     requires ready { IsReady tools.now.rewriter.now start.now.variant start.now.next }
-    requires turn { IsTurnAt tools.now.rewriter.now start.now.variant part.now.at.now
+    requires turn { IsMeetingAt tools.now.rewriter.now start.now.variant part.now.at.now
         (turn_of part.now.member part.now.path.now part.now.beside rule.now) }
     ensures { IfOk result (AreFound tools.now.rewriter.now (S.most_unifiers tools.now.solver.now)
         (S.drawn tools.now.solver.now) start.now.variant

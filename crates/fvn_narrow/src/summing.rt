@@ -1,10 +1,10 @@
 //! Two summands of a sum at a time.
-ghost use Rattle.std.specs.Prelude.{◌≡◌, ◌<◌, length, IfOk};
+ghost use Rattle.std.specs.Prelude.{◌≡◌, ◌<◌, length, IsTrue, IfOk};
 ghost use Rattle.fvn_flat.specs.Forms.{args_of};
 ghost use Rattle.fvn_rewrite_rules.specs.Given.{headed};
 ghost use Rattle.fvn_narrow.specs.inner.Turns.{IsReady, IsSumAt, IsPairAt, IsTryAt, IsTryFrom, IsTryBefore};
 ghost use Rattle.fvn_narrow.specs.inner.Turns.{ForEach, TryLifts, AreFound};
-ghost use Rattle.fvn_narrow.specs.inner.Pairing.{IsFitSum, AreOthers};
+ghost use Rattle.fvn_narrow.specs.inner.Pairing.{IsFitSum, AreOthers, StandsAgain};
 
 use crate::posing::is_whole;
 use crate::stepping::Part;
@@ -92,7 +92,20 @@ fn at_pair<S: Solves>(
     Ok(e)
 }
 
-// The children at one of the summands with each behind it, up to the first that stops.
+// Whether the summand at a place is the one before it, from the first place on. Summands stand in order, so that those
+// that are one form stand side by side.
+fn stands_again(ts: &[Flat], first: usize, place: usize) -> bool
+    requires { place < length ts.now }
+    ensures { IsTrue result → StandsAgain ts.now first place }
+{
+    if place <= first {
+        return false;
+    }
+    ts[place - 1].same(&ts[place])
+}
+
+// The children at one of the summands with each behind it, up to the first that stops; with one that stands there again
+// they are the same.
 fn at_pairs_from<S: Solves>(
     tools: &Tools<'_, '_, S>,
     alloc: Global,
@@ -111,9 +124,13 @@ fn at_pairs_from<S: Solves>(
         start.now.variant) (IsTryFrom f (args_of sum.now.at.now)
         (headed tools.now.rewriter.now.rules f) (i, length (args_of sum.now.at.now))))) }
 {
-    let count = sum.at.args().len();
+    let ts = sum.at.args();
     let mut children = Vec::new(alloc);
-    for j in i + 1..count {
+    for j in i + 1..ts.len() {
+        let again = stands_again(ts, i + 1, j);
+        if again {
+            continue;
+        }
         let next = at_pair(tools, alloc, start, sum, f, i, j)?;
         let (all, end) = with_more(children, next)?;
         children = all;
@@ -130,7 +147,8 @@ fn at_pairs_from<S: Solves>(
     })
 }
 
-// The children at all pairs of summands, up to the first that stops.
+// The children at all pairs of summands, up to the first that stops; those of a summand that stands there again are the
+// same.
 pub(crate) fn at_pairs<S: Solves>(
     tools: &Tools<'_, '_, S>,
     alloc: Global,
@@ -147,9 +165,13 @@ pub(crate) fn at_pairs<S: Solves>(
         start.now.variant) (IsTryBefore f (args_of sum.now.at.now)
         (headed tools.now.rewriter.now.rules f) (length (args_of sum.now.at.now))))) }
 {
-    let count = sum.at.args().len();
+    let ts = sum.at.args();
     let mut children = Vec::new(alloc);
-    for i in 0..count {
+    for i in 0..ts.len() {
+        let again = stands_again(ts, 0, i);
+        if again {
+            continue;
+        }
         let next = at_pairs_from(tools, alloc, start, sum, f, i)?;
         let (all, end) = with_more(children, next)?;
         children = all;

@@ -4,11 +4,11 @@ ghost use Rattle.fvn_flat.specs.Fits.{Fits};
 ghost use Rattle.fvn_lifting.specs.Pairs.{IsMetInPairs};
 ghost use Rattle.fvn_narrow.specs.inner.Joining.{AreJoined};
 ghost use Rattle.fvn_narrow.specs.inner.Turns.{turn_of, try_of, IsReady, IsTurnAt, IsTryOf, IsPassedOver};
-ghost use Rattle.fvn_narrow.specs.inner.Turns.{ForEach, TryLiftsUnless, TryLiftsAmong, AreFound};
+ghost use Rattle.fvn_narrow.specs.inner.Turns.{ForEach, TryLifts, TryLiftsUnless, TryLiftsAmong, AreFound};
 
 use crate::pairing::is_met_in_pairs;
 use crate::posing::is_whole;
-use crate::serving::some_serves;
+use crate::serving::{replacement, some_serves};
 use crate::stepping::{Part, by_rule};
 use crate::tools::{Solves, Tools};
 use fvn_base::Seq;
@@ -75,6 +75,34 @@ fn is_passed_over<S: Solves>(
     Ok(served)
 }
 
+// The children at a part by a rule that is needed there, or by the one that replaces it.
+fn by_needed<S: Solves>(
+    tools: &Tools<'_, '_, S>,
+    alloc: Global,
+    start: &Start,
+    part: &Part<'_>,
+    rule: &Rule,
+) -> Result<Expansion, NoMemory>
+    requires ready { IsReady tools.now.rewriter.now start.now.variant start.now.next }
+    requires turn { IsTurnAt tools.now.rewriter.now start.now.variant part.now.at.now
+        (turn_of part.now.member part.now.path.now part.now.beside rule.now) }
+    requires fits { Fits tools.now.rewriter.now.signature part.now.at.now }
+    ensures { IfOk result (AreFound tools.now.rewriter.now (S.most_unifiers tools.now.solver.now)
+        (S.drawn tools.now.solver.now) start.now.variant
+        (TryLifts tools.now.rewriter.now (S.most_unifiers tools.now.solver.now) start.now.variant
+        (try_of part.now.at.now rule.now))) }
+{
+    tools.rewriter.recall();
+    rules_are_lawful();
+    let all = tools.rewriter.rules().rules();
+    let Some(other) = replacement(tools.rewriter.signature(), part.at, all, rule) else {
+        let e = by_rule(tools, alloc, start, part, rule)?;
+        return Ok(e);
+    };
+    let by_other = by_rule(tools, alloc, start, part, other)?;
+    Ok(by_other)
+}
+
 // The children at a part by a rule, one of several; none where it is passed over.
 fn by_rule_unless<S: Solves>(
     tools: &Tools<'_, '_, S>,
@@ -98,7 +126,7 @@ fn by_rule_unless<S: Solves>(
     if over {
         return Ok(no_children(alloc));
     }
-    let e = by_rule(tools, alloc, start, part, rule)?;
+    let e = by_needed(tools, alloc, start, part, rule)?;
     Ok(e)
 }
 

@@ -12,7 +12,7 @@ use Rattle.fvn_theory.specs.Equations.{equations_of}
 use Rattle.fvn_rewrite_rules.specs.Given.{RuleLists}
 use Rattle.fvn_rewrite_laws.specs.Normalised.{IsReached}
 use Rattle.fvn_rewrite.specs.Usable.{AreUsable}
-use Rattle.fvn_rewrite.specs.inner.Making.{AreStepRules, IsBegun}
+use Rattle.fvn_rewrite.specs.inner.Making.{AreStepRules, IsReachedFrom}
 use Rattle.fvn_rewrite.specs.declared.quick.Begun.{Begun}
 use Rattle.fvn_rewrite.specs.inner.Walking.{IsNext}
 use Rattle.fvn_rewrite.proofs.Reaching.{reached_itself, reached_more}
@@ -30,7 +30,7 @@ lawful d lists usable good completed rules rewriting sequences kinds = record {
 }
 
 -- what one step leads to, with one step less
-pub begun_next : (d : Declarations) (equations : Equations) → RewritingIsLawful → (t next : FlatTerm) (steps : ℕ) (begun : Begun) → Fits d t → IsNext d equations t next → begun.form ≡ next → begun.left + 1 ≡ steps → IsBegun d equations t steps begun
+pub begun_next : (d : Declarations) (equations : Equations) → RewritingIsLawful → (t next : FlatTerm) (steps : ℕ) (begun : Begun) → Fits d t → IsNext d equations t next → begun.form ≡ next → begun.left + 1 ≡ steps → IsReachedFrom d equations t steps begun.form begun.left
 begun_next d equations laws t next steps begun fits step is left = record {
   count = 0 + 1;
   spent = omega (arith, left);

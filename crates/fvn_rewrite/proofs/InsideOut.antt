@@ -33,7 +33,7 @@ use Rattle.fvn_rewrite.specs.declared.quick.Begun.{Begun}
 use Rattle.fvn_rewrite.specs.inner.Trying.{SidesFit}
 use Rattle.fvn_rewrite.specs.inner.SortedTerms.{SortedTerm, sapp, spack, sort_of, term_of, terms_of, IsSorted, AreSorted, IsValue}
 use Rattle.fvn_rewrite.specs.inner.Fitting.{SortedBindings, sorted_bound, sorted_or, standing_for, IsFreeHead, AreBindings, IsFound}
-use Rattle.fvn_rewrite.specs.inner.Making.{AreStepRules, LeadsTo, IsMade, AreMade, IsMadeOver, IsBegun}
+use Rattle.fvn_rewrite.specs.inner.Making.{AreStepRules, LeadsTo, IsMade, AreMade, IsMadeOver, IsReachedFrom}
 use Rattle.fvn_rewrite.proofs.Values.{sorted_append, sorted_over}
 use Rattle.fvn_rewrite.proofs.Bound.{bound_well_sorted, bound_is_sorted, instance_term, free_plain}
 
@@ -205,7 +205,7 @@ module _ (d : Declarations) (lists : RuleLists) (laws : AreStepRules d lists) wh
 
   -- what the whole form comes to
   pub begun_here : (t : FlatTerm) (steps : ℕ) (made : Made) (p : Plain) (begun : Begun) → IsMade d (equations_of lists.equations) (apply (standing_for []) (plain t)) steps made → term p ≡ term_of made.value → BEqual d (term p) (plain begun.form) → Fits d begun.form → begun.left ≡ made.left →
-      IsBegun d (equations_of lists.equations) t steps begun
+      IsReachedFrom d (equations_of lists.equations) t steps begun.form begun.left
   begun_here t steps made p begun m is equal fits left = record {
     count = m.leads.count;
     spent = omega (arith, m.leads.spent, left);

@@ -14,3 +14,5 @@ mod Beginning
 mod Trying
 mod Repeated
 mod Fewer
+mod OverArguments
+mod InsideAxioms

@@ -26,7 +26,7 @@ use Rattle.fvn_rewrite.specs.inner.Walking.{ArgumentSteps}
 
 -- a step of one summand is one of the nested sum
 module _ (R : Term → Term → Type 0) where
-  among_arguments : (before : List FlatTerm) (a u : FlatTerm) (after : List FlatTerm) → R (plain a) (plain u) → AmongOnePlace R (plain_all (fpack (before ++ a ∷ after))) (plain_all (fpack (before ++ u ∷ after)))
+  pub among_arguments : (before : List FlatTerm) (a u : FlatTerm) (after : List FlatTerm) → R (plain a) (plain u) → AmongOnePlace R (plain_all (fpack (before ++ a ∷ after))) (plain_all (fpack (before ++ u ∷ after)))
   among_arguments [] a u after r = first (here r)
   among_arguments (t ∷ before) a u after r = later (among_arguments before a u after r)
 
@@ -39,7 +39,7 @@ module _ (R : Term → Term → Type 0) where
   nest_later f t (more v vs) none r i = elim r [ ]
   nest_later f t (more v vs) (more w ws) r i = inside (later (first i))
 
-  nest_among : (f : OpId) (ts us : Terms) → AmongOnePlace R ts us → AtOnePlace R (nest_all f ts) (nest_all f us)
+  pub nest_among : (f : OpId) (ts us : Terms) → AmongOnePlace R ts us → AtOnePlace R (nest_all f ts) (nest_all f us)
   nest_among f ts us (first {t} {u} {ts = rest} r) = nest_first f t u rest r
   nest_among f ts us (later {t} {ts = rest} {us = others} r) = nest_later f t rest others r (nest_among f rest others r)
 

@@ -11,3 +11,4 @@ pub mod Content
 pub mod SortedFalls
 pub mod Fitting
 pub mod Making
+pub mod Inside

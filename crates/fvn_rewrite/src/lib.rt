@@ -2,6 +2,7 @@
 #![tactic(auto)]
 
 mod fitting;
+mod inside;
 mod making;
 mod normalising;
 mod quick;

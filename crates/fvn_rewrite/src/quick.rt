@@ -1,11 +1,12 @@
-//! Where turns from the root begin: a first pass from the inside out goes before them.
+//! Where turns from the root begin: passes from the inside out go before them.
 ghost use Rattle.std.specs.Prelude.{◌<◌, IfOk, IfSome};
 ghost use Rattle.fvn_flat.specs.Fits.{Fits};
 ghost use Rattle.fvn_theory.specs.Equations.{equations_of};
 ghost use Rattle.fvn_rewrite.specs.Usable.{AreUsable};
-ghost use Rattle.fvn_rewrite.specs.inner.Making.{AreStepRules, IsBegun};
+ghost use Rattle.fvn_rewrite.specs.inner.Making.{AreStepRules, IsReachedFrom};
 ghost use Rattle.fvn_rewrite.specs.inner.Walking.{IsNext};
 
+use crate::inside::inside;
 use crate::making::{Pass, make};
 use fvn_base::limits::DEPTH;
 use fvn_flat::{Flat, flatten};
@@ -34,7 +35,8 @@ fn quick(
     requires term { Fits sig.now t.now }
     requires laws { AreStepRules sig.now rules.now }
     ensures { IfOk result (λ o. IfSome o
-        (IsBegun sig.now (equations_of rules.now.equations) t.now bounds.steps)) }
+        (λ (b : Begun). IsReachedFrom sig.now (equations_of rules.now.equations)
+        t.now bounds.steps b.form b.left)) }
 {
     let pass = Pass {
         alloc,
@@ -56,7 +58,8 @@ fn quick(
     }
 }
 
-// Where turns from the root begin: what the pass comes to, or what one step leads to.
+// Where turns from the root begin: what a pass comes to, the first for free operators alone, the second modulo axioms;
+// where neither comes to an end, what one step leads to.
 pub(crate) fn begin(
     alloc: Global,
     sig: &Signature,
@@ -69,7 +72,8 @@ pub(crate) fn begin(
     requires rules { AreUsable sig.now rules.now }
     requires next { IsNext sig.now (equations_of rules.now.equations) t.now next }
     requires some { 0 < bounds.steps }
-    ensures { IfOk result (IsBegun sig.now (equations_of rules.now.equations) t.now bounds.steps) }
+    ensures { IfOk result (λ b.
+        IsReachedFrom sig.now (equations_of rules.now.equations) t.now bounds.steps b.form b.left) }
 {
     sig.recall_good();
     sig.recall_completed();
@@ -80,6 +84,19 @@ pub(crate) fn begin(
     let made = quick(alloc, sig, rules, t, bounds)?;
     if let Some(begun) = made {
         return Ok(begun);
+    }
+    let pass = Pass {
+        alloc,
+        sig,
+        rules,
+        size: bounds.size,
+    };
+    let reached = inside(&pass, DEPTH, t, bounds.steps)?;
+    if let Some(one) = reached {
+        return Ok(Begun {
+            form: one.form,
+            left: one.left,
+        });
     }
     Ok(Begun {
         form: next,

@@ -1,5 +1,5 @@
 -- Forms among others, and rules within others.
-use Rattle.std.specs.Prelude.{◌≡◌, ℕ, List, [], ◌∷◌, All, Contains, None, Some, slice_get}
+use Rattle.std.specs.Prelude.{◌≡◌, ◌≤◌, ◌+◌, ℕ, List, [], ◌∷◌, All, Contains, None, Some, slice_get}
 use Rattle.fvn_terms.specs.declared.plain.Var.{Var}
 use Rattle.fvn_terms.specs.declared.plain.OpId.{OpId}
 use Rattle.fvn_terms.specs.declared.plain.SortId.{SortId}
@@ -60,3 +60,10 @@ pub record IsFitSum (d : Declarations) (f : OpId) (t : FlatTerm) : Type 0 where
 abbrev pub AreOthers : List FlatTerm → ℕ → ℕ → List FlatTerm → Type 0
 AreOthers ts i j others =
     (t u : FlatTerm) → slice_get ts i ≡ Some t → slice_get ts j ≡ Some u → IsDivided ts (t ∷ u ∷ []) others
+
+-- the form at the place stands at the one before it too, which is not before the first
+pub record StandsAgain (ts : List FlatTerm) (first place : ℕ) : Type 0 where
+  pub before : ℕ
+  pub behind : first ≤ before
+  pub next : place ≡ before + 1
+  pub again : slice_get ts before ≡ slice_get ts place

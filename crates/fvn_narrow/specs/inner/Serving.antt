@@ -1,5 +1,5 @@
 -- Rules that serve at a form in place of others.
-use Rattle.std.specs.Prelude.{◌≡◌, List, [], ◌∷◌, length, Contains, None, Some, slice_get}
+use Rattle.std.specs.Prelude.{◌≡◌, ◌⊎◌, List, [], ◌∷◌, All, Contains, None, Some}
 use Rattle.fvn_terms.specs.declared.plain.Var.{Var}
 use Rattle.fvn_terms.specs.declared.plain.OpId.{OpId}
 use Rattle.fvn_terms.specs.declared.plain.SortId.{SortId}
@@ -8,30 +8,42 @@ use Rattle.fvn_terms.specs.Signature.{axioms, AtOrBelow}
 use Rattle.fvn_terms.specs.Substitution.{Occurs}
 use Rattle.fvn_terms.specs.Equality.{IsAssociative, identity}
 use Rattle.fvn_forms.specs.Flat.{FlatTerm, fvar, plain}
+use Rattle.fvn_forms.specs.Ranks.{result}
 use Rattle.fvn_forms.specs.LeastSort.{least_sort}
 use Rattle.fvn_flat.specs.Forms.{head_of, args_of}
 use Rattle.fvn_rewrite_rules.specs.declared.rule.Rule.{Rule}
 use Rattle.fvn_lifting.specs.Pairs.{SummandsKeep}
 
--- there are three forms, and this is the last
-abbrev pub IsLastOfThree : FlatTerm → List FlatTerm → Type 0
-IsLastOfThree t ts = (length ts ≡ 3) × (slice_get ts 2 ≡ Some t)
+-- these stand behind two forms
+abbrev pub AreBehindTwo : List FlatTerm → List FlatTerm → Type 0
+AreBehindTwo last ts = (one : FlatTerm) × (rest : FlatTerm) × (ts ≡ one ∷ rest ∷ last)
 
--- The first form has the variable and another argument, in which it does not stand; the second has two arguments in the
+-- the variable stands in none of the forms
+abbrev pub StandsInNone : Var → List FlatTerm → Type 0
+StandsInNone x = All (λ t. Occurs x (plain t) → ⊥)
+
+-- The first form has the variable and other arguments, in none of which it stands; the second has two arguments in the
 -- variable's place.
 pub record HasTwoFor (left other : FlatTerm) (x : Var) : Type 0 where
   pub last : FlatTerm
+  pub more : List FlatTerm
   pub one : FlatTerm
   pub rest : FlatTerm
-  pub are_two : args_of left ≡ fvar x ∷ last ∷ []
-  pub are_three : args_of other ≡ one ∷ rest ∷ last ∷ []
-  pub outside : Occurs x (plain last) → ⊥
+  pub has_one : args_of left ≡ fvar x ∷ last ∷ more
+  pub has_two : args_of other ≡ one ∷ rest ∷ last ∷ more
+  pub outside : StandsInNone x (last ∷ more)
 
 module _ (d : Declarations) where
-  -- the form has the sort, which the summands of f keep, and f is associative, without an identity
+  -- f has no identity, or one of the sort
+  abbrev pub HasLowIdentity : OpId → SortId → Type 0
+  HasLowIdentity f s =
+      (identity (axioms d f) ≡ None)
+      ⊎ ((e : OpId) × (identity (axioms d f) ≡ Some e) × AtOrBelow d (result d e []) s)
+
+  -- the form has the sort, which the summands of f keep, and which the identity of f has; f is associative
   pub record HasKeptSort (f : OpId) (s : SortId) (at : FlatTerm) : Type 0 where
     pub associative : IsAssociative (axioms d f)
-    pub no_identity : identity (axioms d f) ≡ None
+    pub neutral : HasLowIdentity f s
     pub keep : SummandsKeep d f s
     pub low : AtOrBelow d (least_sort d at) s
 

@@ -104,6 +104,19 @@ module _ (r : Rewriting) (v : Variant) where
     pub heads : head_of at ≡ Some operator
     pub needed : Contains (headed r.rules operator) turn.rule
 
+  -- the turn's path leads to a form of which this is a part, and its rule is any whose left side the part's head heads
+  pub record IsMeetingAt (at : FlatTerm) (turn : Turn) : Type 0 where
+    pub term : FlatTerm
+    pub is : slice_get v.terms turn.member ≡ Some term
+    pub whole : FlatTerm
+    pub leads : LeadsTo turn.path term whole
+    pub part : IsPartOf whole at turn.beside
+    pub left : SomeLeft turn.beside
+    pub operator : OpId
+    pub heads : head_of at ≡ Some operator
+    pub listed : Contains r.rules.rules turn.rule
+    pub left_heads : head_of turn.rule.left ≡ Some operator
+
   -- the path leads to this form in one member, and f heads it
   pub record IsFormAt (member : ℕ) (path : List ℕ) (f : OpId) (at : FlatTerm) : Type 0 where
     pub term : FlatTerm
@@ -233,22 +246,6 @@ IsTryFrom f ts rules places try =
 abbrev pub IsTryBefore : OpId → List FlatTerm → List Rule → ℕ → Try → Type 0
 IsTryBefore f ts rules place try =
     (i : ℕ) × (i < place) × IsTryFrom f ts rules (i, length ts) try
-
--- the turns in one member, along one of these paths
-abbrev pub IsThrough : ℕ → List (List ℕ) → Turn → Type 0
-IsThrough member paths turn = (turn.member ≡ member) × Contains paths turn.path
-
--- the turns in one member along one path
-abbrev pub IsAlong : ℕ → List ℕ → Turn → Type 0
-IsAlong member path turn = (turn.member ≡ member) × (turn.path ≡ path)
-
--- the turns in one member
-abbrev pub IsInMember : ℕ → Turn → Type 0
-IsInMember member turn = turn.member ≡ member
-
--- the turns in one of so many members
-abbrev pub IsAmongFirst : ℕ → Turn → Type 0
-IsAmongFirst count turn = turn.member < count
 
 -- all turns
 abbrev pub IsAny : Turn → Type 0

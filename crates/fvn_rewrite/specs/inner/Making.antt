@@ -21,7 +21,6 @@ use Rattle.fvn_rewrite.specs.declared.making.Made.{Made}
 use Rattle.fvn_rewrite.specs.declared.making.MadeAll.{MadeAll}
 use Rattle.fvn_rewrite.specs.declared.making.Turned.{Turned}
 use Rattle.fvn_rewrite.specs.declared.making.Turned.TheVariants.{Whole, Over}
-use Rattle.fvn_rewrite.specs.declared.quick.Begun.{Begun}
 use Rattle.fvn_rewrite.specs.inner.Trying.{AllSidesFit}
 use Rattle.fvn_rewrite.specs.inner.SortedTerms.{spack, term_of, terms_of, IsSorted, AreSorted}
 
@@ -64,8 +63,8 @@ module _ (d : Declarations) (equations : Equations) where
   TurnsTo t before (Whole made) = IsMade t before made
   TurnsTo t before (Over f made) = IsMadeOver t before f made
 
-  -- steps lead from the form to the one with which turns from the root begin
-  pub record IsBegun (t : FlatTerm) (steps : ℕ) (begun : Begun) : Type 0 where
+  -- as many steps as are used up lead from the first form to the second, which fits
+  pub record IsReachedFrom (t : FlatTerm) (before : ℕ) (u : FlatTerm) (after : ℕ) : Type 0 where
     pub count : ℕ
-    pub spent : count + begun.left ≡ steps
-    pub reached : IsReached d equations count t begun.form
+    pub spent : count + after ≡ before
+    pub reached : IsReached d equations count t u

@@ -41,7 +41,9 @@ BLIND sort S . ops sg bl ub ch : S S -> S . op term : S S S -> S . vars X Y Z : 
 MEMBER sorts Elt Set Truth . subsort Elt < Set . op tt : -> Truth . op mt : -> Set . op ; : Set Set -> Set [assoc comm id: mt] . op in : Elt Set -> Truth . op term : Elt Set Set -> Truth . var X : Elt . vars Y Z : Set . eq in(X,;(X,Y)) = tt [variant] .
 SORTED sorts A B . subsort A < B . op a : -> A . op b : -> B . ops f g : B -> B . op term : B B B -> B . vars X Y : B . var Z : A . eq f(Z) = Z [variant] . eq g(f(X)) = X [variant] .
 GROUP sort G . ops a e : -> G . op i : G -> G . op + : G G -> G [assoc comm] . op term : G G G -> G . vars X Y Z : G . eq +(X,e) = X [variant] . eq +(X,i(X)) = e [variant] . eq i(i(X)) = X [variant] . eq i(e) = e [variant] . eq +(i(X),i(Y)) = i(+(X,Y)) [variant] . eq i(+(i(X),Y)) = +(X,i(Y)) [variant] . eq +(i(+(X,Y)),Y) = i(X) [variant] .
-LOOP sort S . op a : -> S . op f : S -> S . op term : S S S -> S . vars X Y Z : S . eq f(X) = f(X) [variant] .";
+LOOP sort S . op a : -> S . op f : S -> S . op term : S S S -> S . vars X Y Z : S . eq f(X) = f(X) [variant] .
+UNIT sort S . ops a b c d 1 : -> S . op h : S S -> S . op & : S S -> S [assoc comm id: 1] . op term : S S S -> S . vars X Y Z : S . eq &(X,h(a,b)) = &(X,d) [variant] .
+THREE sort S . ops a b c d : -> S . op + : S S -> S [assoc comm] . op term : S S S -> S . vars X Y Z : S . eq +(X,a,b) = +(X,d) [variant] .";
 
 // Each line has the name of a module, the number of unifiers at which the solver stops, a term, the number of its children
 // and the end; behind a bar the children may stand, each with its term, and behind a semicolon its values of the term's
@@ -51,7 +53,12 @@ LOOP sort S . op a : -> S . op f : S -> S . op term : S S S -> S . vars X Y Z : 
 // place that of `mt` beside one serves, so that there are as many children as in XOR. In PARITY the sum of two odd
 // constants is even, and stands for a variable of that sort. In GROUP two variables have 26 children: 2 by `e`, 8 and 8
 // by an inverse beside what it is of, alone and within another one, and 8 by two inverses; no sum of three is taken whole.
-// Where two places stop, the end of the first is told.
+// In UNIT the rule is tried in place of its extension, whose two rests would divide `c` and `d` in four ways, and `c`
+// beside `Y` in two. Of the rule's two unifiers in its last row one gives `Y` a reducible value; `h(X,b)` has a child
+// too. In THREE the rule's extension, which is not tried, would have twelve unifiers: two where `X` is `a + b`, and ten
+// where it has a summand more. The rule itself has one of each, of which the second gives `X` a reducible value.
+// Where two places stop, the end of the first is told. A form that stands at two places has its children once: in *(X,X,Y)
+// there are three of the sum of X and X, and six of that of X and Y.
 const ROWS: &str = "ENC 100 dec(X,Y) => 1 whole | x0 ; f2(x0,x1) x1
 ENC 100 dec(dec(X,Y),Y) => 1 whole | f3(x0,x1) ; f2(x0,x1) x1
 ENC 100 enc(dec(X,Y),Y) => 1 whole | f2(x0,x1) ; f2(x0,x1) x1
@@ -68,6 +75,8 @@ PLUS 100 +(+(X,Y),Z) => 2 whole | f2(x0,x1) ; f0 x0 x1 | f1(f2(f2(x0,x1),x2)) ; 
 PLUS 100 +(X,+(Y,Z)) => 4 whole | f2(x0,x1) ; f0 x0 x1 | f1(f2(x0,f2(x1,x2))) ; f1(x0) x1 x2 | f2(x0,x1) ; x0 f0 x1 | f2(x0,f1(f2(x1,x2))) ; x0 f1(x1) x2
 PAIR 100 pair(fst(X),snd(X)) => 2 whole | f0(x0,x1) ; f0(x0,x1) | f0(x0,x1) ; f0(x0,x1)
 PAIR 100 pair(fst(X),snd(Y)) => 2 whole | f0(x0,f2(x1)) ; f0(x0,x2) x1 | f0(f1(x0),x1) ; x0 f0(x2,x1)
+PAIR 100 pair(fst(X),fst(X)) => 1 whole | f0(x0,x0) ; f0(x0,x1)
+PAIR 100 pair(fst(snd(X)),pair(snd(X),snd(Y))) => 2 whole | f0(f1(x0),f0(x0,f2(x1))) ; f0(x2,x0) x1 | f0(f1(f2(x0)),f0(f2(x0),x1)) ; x0 f0(x2,x1)
 PAIR 100 fst(snd(X)) => 1 whole | f1(x0) ; f0(x1,x0)
 PAIR 100 fst(snd(fst(X))) => 1 whole | f1(f2(x0)) ; f0(x0,x1)
 PAIR 100 pair(X,Y) => 0 whole
@@ -87,6 +96,8 @@ XOR 100 *(X,c) => 3 whole
 XOR 100 *(X,X) => 3 whole
 XOR 100 mt => 0 whole
 XOR 100 *(X,Y,Z) => 18 whole
+XOR 100 *(X,X,Y) => 9 whole
+XOR 100 *(X,c,c) => 4 whole
 XOR 100 *(X,Y,c) => 12 whole
 XOR 100 *(X,c,d) => 6 whole
 XORS 100 *(X,Y,Z) => 18 whole
@@ -100,7 +111,10 @@ XORN 100 *(X,Y,Z) => 18 whole
 MIXED 100 *(a,g(a),d) => 2 whole
 MIXED 100 *(a,b,g(*(a,b))) => 1 whole
 GROUP 100 +(X,Y) => 26 whole
-GROUP 100 +(X,Y,Z) => 78 whole";
+GROUP 100 +(X,Y,Z) => 78 whole
+UNIT 2 &(X,c,d) => 0 whole
+UNIT 100 &(h(X,b),Y,c) => 2 whole
+THREE 4 +(X,c,d) => 1 whole";
 
 // Each line has the name of a module, a number of steps, a term, and what a search for its normal form ends with.
 const RESTS: &str = "LOOP 5 f(a) => steps f1(f0) f1(f0)

@@ -36,8 +36,8 @@ some_reducible-requires g c =
           (All-weaker (λ (x : Var). IsSort r.signature x.sort) (λ (x : Var). IsIrreducible r.signature (equations_by r) (substitution [] x)) (λ x h. unbound_irreducible r.signature (equations_by r) laws [] x h refl) c.as_slice-vars.result.now sorts);
     }
 
-pub in_members-requires : goal.in_members-requires
-in_members-requires g c =
+pub in_terms-requires : goal.in_terms-requires
+in_terms-requires g c =
     let r = c.args.tools.now.rewriter.now in
     let start = c.in_ok-start.start in
     let o : IsStartOf r.signature start.next c.args.v.now start.variant = subst (λ (d : Declarations). IsStartOf d start.next c.args.v.now start.variant) c.signature.ensures c.in_ok-start.ensures in

@@ -1,9 +1,9 @@
 -- One of the needed rules.
-use Rattle.std.proofs.Common.{◌≡◌, sym, ap, ◌∙◌, subst}
-use Rattle.std.specs.Prelude.{All, Contains}
+use Rattle.std.proofs.Common.{◌≡◌, sym, subst}
+use Rattle.std.specs.Prelude.{Contains}
 use Rattle.std.proofs.lemmas.List.Elements.{All-contains, Contains-get_or}
 use Rattle.fvn_rewrite_rules.specs.declared.rule.Rule.{Rule}
-use Rattle.fvn_rewrite_rules.specs.Given.{RuleLists, headed}
+use Rattle.fvn_rewrite_rules.specs.Given.{headed}
 use Rattle.fvn_narrow.specs.inner.Pairing.{IsHeadedFit}
 use Rattle.fvn_narrow.proofs.Parted.{met_in_pairs}
 use Rattle.fvn_narrow.proofs.Whole.{rules_are}

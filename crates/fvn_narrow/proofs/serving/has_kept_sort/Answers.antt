@@ -10,7 +10,7 @@ summands_keep-keep-requires c = c.is_associative-associative.ensures c.if-not-as
 pub returns : goal.returns
 returns c = λ yes. record {
   associative = c.is_associative-associative.ensures c.if-not-associative.false;
-  no_identity = c.has_no_identity-lasting.ensures c.if-not-lasting.false;
+  neutral = c.has_low_identity-neutral.ensures c.if-not-neutral.false;
   keep = c.summands_keep-keep.ensures c.if-not-keep.false;
   low = subst (λ (q : SortId). AtOrBelow c.args.sig.now q c.args.s) c.least_sort.ensures.exact (c.leq.ensures.0 yes);
 }

@@ -7,8 +7,8 @@ use Rattle.fvn_narrow.proofs.trying.by_rule_unless.Goals as goal
 pub is_passed_over-requires : goal.is_passed_over-requires
 is_passed_over-requires g c = c.requires.fits
 
-pub by_rule-requires : goal.by_rule-requires
-by_rule-requires g c = record { ready = c.requires.ready; turn = c.requires.turn }
+pub by_needed-requires : goal.by_needed-requires
+by_needed-requires g c = record { ready = c.requires.ready; turn = c.requires.turn; fits = c.requires.fits }
 
 pub returns-then-over : goal.returns-then-over
 returns-then-over g c =

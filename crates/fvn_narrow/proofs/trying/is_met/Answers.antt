@@ -3,7 +3,6 @@ use Rattle.std.proofs.Common.{sym, ◌∙◌}
 use Rattle.std.specs.Prelude.{All, Contains}
 use Rattle.std.proofs.lemmas.List.Elements.{All-weaker, All-contains_itself}
 use Rattle.fvn_rewrite_rules.specs.Given.{headed}
-use Rattle.fvn_rewrite_rules.specs.declared.rule.Rule.{Rule}
 use Rattle.fvn_rewrite.specs.Usable.{equations_by}
 use Rattle.fvn_narrow.specs.inner.Pairing.{IsHeadedFit}
 use Rattle.fvn_narrow.proofs.Fit.{needed_fits}
