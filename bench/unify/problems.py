@@ -203,6 +203,8 @@ FAMILIES = [
     ("known parts", "identities", {n: known_parts(n) for n in (1, 2, 3)}),
     ("solved sums", "identities", {n: solved_sums(n) for n in (1, 2, 3, 4)}),
     ("solved towers", "identities", {n: solved_tower(n) for n in (2, 4, 6, 12, 20)}),
+    ("a constant in a bag of variables", "identities", {n: f"{over('_&_', variables('X', n))} =? a" for n in (10, 20, 40)}),
+    ("a term in a bag of variables", "identities", {n: f"{over('_&_', variables('X', n))} =? g(Y:S)" for n in (10, 20, 40)}),
     ("loose in two sums", "identities", {n: loose_sums(n) for n in (2, 4, 6)}),
     ("sums below sums", "identities", {n: sums_below_sums(n, "one") for n in (1, 2, 3)}),
     ("sums below sums, other rests", "identities", {n: sums_below_sums(n, "other") for n in (1, 2, 3)}),
