@@ -17,6 +17,9 @@ use fvn_terms::{NoMemory, rewriting_is_lawful};
 use fvn_theory::Bounds;
 use std::alloc::Global;
 
+// How deep the pass modulo axioms goes: each level takes some 1.3 kilobytes of the stack, beside what is matched there.
+const MODULO_DEPTH: u64 = 200;
+
 // A form to which steps lead, and how many steps are left.
 #[derive(Drop)]
 pub(crate) struct Begun {
@@ -91,7 +94,7 @@ pub(crate) fn begin(
         rules,
         size: bounds.size,
     };
-    let reached = inside(&pass, DEPTH, t, bounds.steps)?;
+    let reached = inside(&pass, MODULO_DEPTH, t, bounds.steps)?;
     if let Some(one) = reached {
         return Ok(Begun {
             form: one.form,
