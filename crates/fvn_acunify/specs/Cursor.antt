@@ -1,5 +1,5 @@
 -- A cursor over the choices that are listed, and what is still to come.
-use Rattle.std.specs.Prelude.{ℕ, ◌<◌, Bool, List, []}
+use Rattle.std.specs.Prelude.{ℕ, ◌<◌, Bool, List, [], Option}
 use Rattle.fvn_lindio.specs.Systems.{vectors_of}
 use Rattle.fvn_lindio.specs.declared.system.Solution.{Solution}
 use Rattle.fvn_acunify.specs.declared.theory.ColumnBounds.{ColumnBounds}
@@ -9,13 +9,13 @@ use Rattle.fvn_acunify.specs.ValidChoice.{IsListed}
 abbrev pub unbounded : ColumnBounds
 unbounded = record { at_most_one = []; at_least_one = [] }
 
--- what is asked, bounds of columns, the solutions, whether full choices alone are listed, and the number below which every one is still to come
+-- what is asked, bounds of columns, the solutions, whether full choices alone are listed, with what other columns, and the number below which every one is still to come
 pub record Cursor : Type 0 where
   pub constants : List ℕ
   pub may_be_zero : List Bool
   pub bounds : ColumnBounds
   pub basis : List Solution
-  pub full : Bool
+  pub full : Option (List ℕ)
   pub below : ℕ
 
 -- a choice that is listed and still to come

@@ -1,5 +1,5 @@
 //! The choices of a theory that are listed, from the greatest number down.
-ghost use Rattle.std.specs.Prelude.{◌≡◌, ◌↔◌, ℕ, ◌≤◌, ◌^◌, length, true, false, IfOk, IfErr, IfSome, unwrap_or};
+ghost use Rattle.std.specs.Prelude.{◌≡◌, ◌↔◌, ℕ, ◌≤◌, ◌^◌, length, Some, None, IfOk, IfErr, IfSome, unwrap_or};
 ghost use Rattle.fvn_lindio.specs.Systems.{vectors_of};
 
 use crate::prefix::dead_place;
@@ -17,7 +17,7 @@ pub struct Choices {
     may_be_zero: Vec<bool>,
     bounds: ColumnBounds,
     basis: Seq<Solution>,
-    full: bool,
+    full: Option<Seq<usize>>,
     sums: Vec<u64>,
     below: u128,
 }
@@ -61,7 +61,7 @@ impl Choices {
           may_be_zero = theory.now.may_be_zero;
           bounds = unbounded;
           basis = basis;
-          full = false;
+          full = None;
           below = 2 ^ length basis;
         }) }
         ensures only_memory { IfErr result (λ fault. fault ≡ OneFault.NoMemory) }
@@ -76,7 +76,7 @@ impl Choices {
             may_be_zero,
             bounds,
             basis,
-            full: false,
+            full: None,
             sums,
             below,
         })
@@ -102,7 +102,7 @@ impl Choices {
         while self.below > 0 {
             let number = self.below - 1;
             let found = dead_place(
-                self.full,
+                &self.full,
                 self.constants.as_slice(),
                 self.may_be_zero.as_slice(),
                 &self.bounds,
@@ -132,11 +132,11 @@ impl Choices {
     }
 
     /// Lists from now on full choices alone, which take every solution that is zero in all constant
-    /// columns, and goes back to the start.
-    pub fn list_full(&mut self)
-        ensures { self.new ≡ record self.old { full = true; below = 2 ^ length self.old.basis } }
+    /// columns, and in all of these others, and goes back to the start.
+    pub fn list_full(&mut self, others: Seq<usize>)
+        ensures { self.new ≡ record self.old { full = Some others; below = 2 ^ length self.old.basis } }
     {
-        self.full = true;
+        self.full = Some(others);
         self.again();
     }
 

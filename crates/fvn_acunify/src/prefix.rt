@@ -2,15 +2,16 @@
 ghost use Rattle.std.specs.Prelude.{◌≡◌, ◌↔◌, ℕ, ◌+◌, ◌^◌, ◌<◌, ◌≤◌, length, slice_index, slice_index_or, true, false, All, IsTrue, IfSome, IfNone};
 ghost use Rattle.fvn_lindio.specs.Systems.{vectors_of};
 ghost use Rattle.fvn_acunify.specs.ValidChoice.{IsListed, touched};
-ghost use Rattle.fvn_acunify.specs.inner.Prefix.{AreBoundsOpen, CanBeFilled, CanBeOne, IsBounded, IsChanged, IsDead, IsOpen, useful_part};
+ghost use Rattle.fvn_acunify.specs.inner.Prefix.{AreBoundsOpen, CanBeFilled, CanBeOne, IsBounded, IsChanged, IsAsked, IsDead, IsOpen, useful_part};
 
 use crate::theory::ColumnBounds;
+use fvn_base::Seq;
 use fvn_lindio::Solution;
 
 /// The highest place from which on the bits of the number rule out every choice, or None where the
 /// number is a choice that is listed. `sums` is room for a sum a column.
 pub fn dead_place(
-    full: bool,
+    full: &Option<Seq<usize>>,
     constants: &[usize],
     may_be_zero: &[bool],
     bounds: &ColumnBounds,
@@ -23,9 +24,9 @@ pub fn dead_place(
     requires within { number < 2 ^ length basis.now }
 
     ensures place { IfSome result (λ place. place ≤ length basis.now) }
-    ensures dead { IfSome result (IsDead (IsListed full constants.now may_be_zero.now
+    ensures dead { IfSome result (IsDead (IsListed full.now constants.now may_be_zero.now
         bounds.now (vectors_of basis.now)) number) }
-    ensures listed { IfNone result (IsListed full constants.now may_be_zero.now
+    ensures listed { IfNone result (IsListed full.now constants.now may_be_zero.now
         bounds.now (vectors_of basis.now) number) }
 {
     sums.fill(0);
@@ -59,15 +60,43 @@ fn touches_two(constants: &[usize], parts: &[u32]) -> bool
     constants.iter().filter(|c| parts[**c] > 0).count() > 1
 }
 
-/// Whether full choices alone are listed, and the solution is zero in all constant columns.
-fn is_asked(full: bool, constants: &[usize], parts: &[u32]) -> bool
-    requires { All (λ c. c < length parts.now) constants.now }
-    ensures { IsTrue result ↔ ((full ≡ true) × (touched constants.now parts.now ≡ 0)) }
+/// What a solution has in a column; in one that there is not, 0.
+fn part_in(parts: &[u32], j: usize) -> u32
+    ensures { result ≡ slice_index parts.now j }
 {
-    if !full {
-        return false;
+    if j < parts.len() {
+        return parts[j];
     }
-    constants.iter().filter(|c| parts[**c] > 0).count() == 0
+    0
+}
+
+/// Whether a solution is zero in these columns.
+fn is_zero_in(columns: &[usize], parts: &[u32]) -> bool
+    ensures { IsTrue result ↔ (touched columns.now parts.now ≡ 0) }
+{
+    for c in columns {
+        let part = part_in(parts, *c);
+        if part > 0 {
+            return false;
+        }
+    }
+    true
+}
+
+/// Whether full choices alone are listed, and the solution is zero in all constant columns, and in the others that
+/// are named.
+fn is_asked(full: &Option<Seq<usize>>, constants: &[usize], parts: &[u32]) -> bool
+    ensures { IsTrue result ↔ IsAsked full.now constants.now parts.now }
+{
+    match full {
+        None => false,
+        Some(others) => {
+            if !is_zero_in(constants, parts) {
+                return false;
+            }
+            is_zero_in(others.as_slice(), parts)
+        }
+    }
 }
 
 /// Adds a solution to the column sums.

@@ -8,13 +8,13 @@ use Rattle.fvn_acunify.specs.ValidChoice.{IsListed}
 use Rattle.fvn_acunify_product.specs.ToCome.{IsToCome}
 use Rattle.fvn_acunify_product.specs.Weight.{weight}
 
--- what is asked of a choice on the wheel, bounds of columns, the solutions that are chosen among, and whether full choices alone are on it
+-- what is asked of a choice on the wheel, bounds of columns, the solutions that are chosen among, and whether full choices alone are on it, with what other columns
 pub record Wheel : Type 0 where
   pub constants : List ℕ
   pub may_be_zero : List Bool
   pub bounds : ColumnBounds
   pub basis : List Solution
-  pub full : Bool
+  pub full : Option (List ℕ)
 
 -- the wheel that a cursor over choices goes round, wherever the cursor stands
 abbrev pub wheel_of : Cursor → Wheel

@@ -1,11 +1,11 @@
 -- Laws of sorts and choices.
-use Rattle.std.specs.Prelude.{◌≢◌, ℕ, ◌<◌, ◌≤◌, List, [], length, Option, Some}
+use Rattle.std.specs.Prelude.{◌≡◌, ◌≢◌, ℕ, ◌<◌, ◌≤◌, List, [], length, Option, Some}
 use Rattle.fvn_terms.specs.declared.plain.OpId.{OpId}
 use Rattle.fvn_terms.specs.declared.plain.SortId.{SortId}
 use Rattle.fvn_terms.specs.declared.declarations.Declarations.{Declarations}
 use Rattle.fvn_terms.specs.Substitution.{Substitution}
 use Rattle.fvn_terms.specs.Signature.{axioms}
-use Rattle.fvn_terms.specs.Equality.{IsAssociative}
+use Rattle.fvn_terms.specs.Equality.{IsAssociative, identity}
 use Rattle.fvn_terms.specs.Unifiers.{Problem}
 use Rattle.fvn_forms.specs.Flat.{FlatTerm}
 use Rattle.fvn_forms.specs.Canon.{parts}
@@ -21,16 +21,17 @@ use Rattle.fvn_combine_complete.specs.CombineChoicesChoosing.{Systems, Choice, A
 use Rattle.fvn_combine_complete.specs.CoveringChoices.{IsCovering}
 use Rattle.fvn_combine_complete.specs.Neutral.{IsNeutral}
 use Rattle.fvn_combine_complete.specs.Obeyed.{AreObeying}
+use Rattle.fvn_combine_complete.specs.Vanishing.{TakesIdentity}
 use Rattle.fvn_combine_complete.specs.Obeying.{IsTold, ObeyHeads, TagsFollow, ObeyTags}
 use Rattle.fvn_sort_bounds.specs.Admitting.{AdmitsSum}
 use Rattle.fvn_combine_bounds.specs.Narrow.{IsNarrow, IsNeverIdentity, IsSortedAt, KeepsBounds, KeepsSorts}
 
 -- a choice that values obey takes a class no more often than its value has summands, where the operator is not
--- neutral; and it takes the class where its value has some summand
+-- neutral and the class does not take its identity; and it takes the class where its value has some summand
 pub record IsTakenForSummands (d : Declarations) (t : NodeTable) (class : ℕ → ℕ) (y : Systems) (c : Choice)
     (values : ℕ → FlatTerm) : Type 0 where
   pub within : (f : OpId) → IsSumOperator d t f → (IsNeutral d f → ⊥) → (k : ℕ) → Uses d t class f k
-      → member_count y c f k ≤ length (parts d f (values k))
+      → ((unit : OpId) → TakesIdentity d t class f unit k → ⊥) → member_count y c f k ≤ length (parts d f (values k))
   pub some : (f : OpId) → IsSumOperator d t f → (k : ℕ) → Uses d t class f k → parts d f (values k) ≢ []
       → 0 < member_count y c f k
 
@@ -39,6 +40,13 @@ abbrev pub TakenSolutionsStandForSummands : Type 0
 TakenSolutionsStandForSummands =
     (d : Declarations) (t : NodeTable) (class : ℕ → ℕ) (y : Systems) (c : Choice) (values : ℕ → FlatTerm)
     → AreObeying d t class y c values → IsTakenForSummands d t class y c values
+
+-- a narrow class does not take the operator's identity
+abbrev pub NarrowClassesTakeNoIdentity : Type 0
+NarrowClassesTakeNoIdentity =
+    (d : Declarations) (problem : Problem) (t : NodeTable) (s : State) (u : Substitution) → IsSortedAt d problem t s u
+    → (f unit : OpId) → identity (axioms d f) ≡ Some unit → (k : ℕ) → Uses d t (class_of s) f k → IsNarrow d t (class_of s) f k
+    → TakesIdentity d t (class_of s) f unit k → ⊥
 
 -- the value of a narrow class has at most one summand
 abbrev pub NarrowClassesHaveOneSummand : Type 0

@@ -1,7 +1,9 @@
 -- Wheels of the sum operators that are read, and what is asked of numbers beside them.
-use Rattle.std.specs.Prelude.{Bool, true, false, ◌↔◌, ◌≡◌, ℕ, List, length, slice_get, slice_index, slice_index_or, [], Some, Option}
+use Rattle.std.specs.Prelude.{Bool, true, false, ◌↔◌, ◌≡◌, ◌⊎◌, ℕ, ◌<◌, List, length, slice_get, slice_index, slice_index_or, [], Some, None, Option, Contains}
 use Rattle.fvn_terms.specs.declared.plain.OpId.{OpId}
 use Rattle.fvn_terms.specs.declared.declarations.Declarations.{Declarations}
+use Rattle.fvn_terms.specs.Signature.{axioms}
+use Rattle.fvn_terms.specs.Equality.{identity}
 use Rattle.fvn_lindio.specs.declared.system.Solution.{Solution}
 use Rattle.fvn_lindio.specs.Systems.{vectors_of}
 use Rattle.fvn_acunify.specs.Cursor.{unbounded}
@@ -12,15 +14,26 @@ use Rattle.fvn_combine_leaves.specs.declared.reading.Sums.{Sums}
 use Rattle.fvn_combine_choices.specs.Binding.{AreAsked}
 use Rattle.fvn_combine_admissible.specs.Aliases.{HasNoAlias}
 use Rattle.fvn_combine_complete.specs.Neutral.{IsNeutral}
+use Rattle.fvn_combine_complete.specs.Vanishing.{TakesIdentity}
 use Rattle.fvn_combine_bounds.specs.Bounding.{AreBounds}
 use Rattle.fvn_acunify_product.specs.Wheels.{Wheel}
 
 module _ (d : Declarations) (t : NodeTable) (class : ℕ → ℕ) (tag : ℕ → Option OpId) where
-  -- the wheel goes over these minimal solutions, with what is asked of them under the tags; for a neutral operator it has full choices alone
+  -- the columns of which the class does not take the operator's identity unit, where the operator is not neutral
+  abbrev pub AreOthers : Sums → OpId → List ℕ → Type 0
+  AreOthers e unit others = (j : ℕ) → Contains others j
+      ↔ ((j < length e.columns) × (IsNeutral d e.operator ⊎ TakesIdentity d t class e.operator unit (slice_index e.columns j) → ⊥))
+
+  -- where the operator has an identity, full choices alone are listed, with these other columns
+  abbrev pub IsFullFor : Sums → Option (List ℕ) → Type 0
+  IsFullFor e None = identity (axioms d e.operator) ≡ None
+  IsFullFor e (Some others) = (unit : OpId) × (identity (axioms d e.operator) ≡ Some unit) × AreOthers e unit others
+
+  -- the wheel goes over these minimal solutions, with what is asked of them under the tags; it has full choices alone, where the operator has an identity
   pub record IsWheel (e : Sums) (basis : List Solution) (w : Wheel) : Type 0 where
     pub over : w.basis ≡ basis
     pub asked : AreAsked d t class tag e.operator e.columns w.constants w.may_be_zero
-    pub full : (w.full ≡ true) ↔ IsNeutral d e.operator
+    pub full : IsFullFor e w.full
 
   -- so does one wheel for each sum operator
   pub record AreWheels (sums : List Sums) (bases : List (List Solution)) (wheels : List Wheel) : Type 0 where

@@ -12,6 +12,7 @@ mod sharing;
 mod solving;
 mod tagging;
 mod turning;
+mod vanishing;
 
 pub use aliases::leave_no_alias;
 pub use fvn_combine_bounds::sorted_leaves_cover;

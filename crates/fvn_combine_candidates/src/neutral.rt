@@ -24,7 +24,7 @@ fn kind_given(sig: &Signature, f: OpId) -> Option<SortId>
 }
 
 // Whether the sum by f of a term of this sort with the constant e has the sort, or one below it.
-fn absorbs(sig: &Signature, f: OpId, e: OpId, s: SortId) -> bool
+pub(crate) fn absorbs(sig: &Signature, f: OpId, e: OpId, s: SortId) -> bool
     ensures { IsTrue result ↔ Absorbs sig.now f e s }
 {
     let least = sig.result(e, &[]);

@@ -14,6 +14,7 @@ ghost use Rattle.fvn_combine_leaves.specs.Bases.{IsBasis, AreBases};
 ghost use Rattle.fvn_combine_candidates.specs.Turning.{IsWheel, AreWheels, HasBounds, HaveBounds};
 
 use crate::neutral::is_neutral;
+use crate::vanishing::other_columns;
 use fvn_acunify::{Choices, choices_among};
 use fvn_acunify_product::Wheels;
 use fvn_base::Seq;
@@ -26,19 +27,25 @@ use fvn_signature::Signature;
 use fvn_terms::{NoMemory, OpId};
 use std::alloc::Global;
 
-// The same choices; of a neutral operator full ones alone.
-fn listed(sig: &Signature, f: OpId, mut choices: Choices) -> Choices
-    requires { choices.full ≡ false }
-    ensures same { result.basis ≡ choices.basis }
-    ensures constants { result.constants ≡ choices.constants }
-    ensures may_be_zero { result.may_be_zero ≡ choices.may_be_zero }
-    ensures bounds { result.bounds ≡ choices.bounds }
-    ensures full { (result.full ≡ true) ↔ IsNeutral sig.now f }
+// The same choices; where the operator has an identity, full ones alone.
+fn listed(
+    alloc: Global,
+    sig: &Signature,
+    table: &Table,
+    state: &State,
+    reading: &Reading,
+    sums: &Sums,
+    mut choices: Choices,
+) -> Result<Choices, NoMemory>
 {
-    if is_neutral(sig, f) {
-        choices.list_full();
+    match sig.identity(sums.operator) {
+        None => {}
+        Some(e) => {
+            let others = other_columns(alloc, sig, table, state, reading, sums, e)?;
+            choices.list_full(Seq::from_vec(others));
+        }
     }
-    choices
+    Ok(choices)
 }
 
 // The choices for a sum operator among its minimal solutions, without bounds.
@@ -63,7 +70,7 @@ fn choices_of(
 {
     let theory = theory(alloc, sig, table, state, reading, tags, sums)?;
     match choices_among(alloc, &theory, basis) {
-        Ok(choices) => Ok(listed(sig, sums.operator, choices)),
+        Ok(choices) => listed(alloc, sig, table, state, reading, sums, choices),
         Err(_) => Err(NoMemory),
     }
 }

@@ -2,6 +2,7 @@
 pub mod Obeying
 pub mod LaidOut
 pub mod Neutral
+pub mod Vanishing
 pub mod Full
 pub mod Obeyed
 pub mod CoveringChoices

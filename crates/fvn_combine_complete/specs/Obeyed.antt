@@ -11,7 +11,7 @@ use Rattle.fvn_combine_leaves.specs.Leaves.{IsSumOperator, Uses}
 use Rattle.fvn_combine_choices.specs.Binding.{IsConstant}
 use Rattle.fvn_combine_choices.specs.Choosing.{Systems, Choice, taken}
 use Rattle.fvn_combine_complete.specs.LaidOut.{laid_for}
-use Rattle.fvn_combine_complete.specs.Neutral.{IsNeutral}
+use Rattle.fvn_combine_complete.specs.Vanishing.{MayVanish}
 use Rattle.fvn_combine_complete.specs.Obeying.{ObeyTags}
 
 module _ (d : Declarations) (t : NodeTable) (class : ℕ → ℕ) (values : ℕ → FlatTerm) where
@@ -25,8 +25,8 @@ module _ (d : Declarations) (t : NodeTable) (class : ℕ → ℕ) (y : Systems) 
   -- for each solution that is taken for f the pieces that it stands for: summands of values, which are made up of them
   pub record AreMadeOf (f : OpId) (pieces : List (List FlatTerm)) : Type 0 where
     pub as_many : length pieces ≡ length (taken y c f)
-    -- a solution that stands for nothing stands for the identity of an operator that is neutral
-    pub some : (z : List FlatTerm) → Contains pieces z → z ≡ [] → IsNeutral d f
+    -- a solution that stands for nothing may stand for the identity
+    pub some : (i : ℕ) → i < length (taken y c f) → slice_index_or pieces i [] ≡ [] → MayVanish d t class f (y.columns f) (slice_index_or (taken y c f) i [])
     pub summands : (z : List FlatTerm) (q : FlatTerm) → Contains pieces z → Contains z q → IsSummand d t class values f q
     -- the summands of each used class are the pieces, as often as the solutions have the class
     pub made : (k : ℕ) → Uses d t class f k → SameCounts (parts d f (values k)) (laid_for (y.columns f) k (taken y c f) pieces)

@@ -14,7 +14,7 @@ use fvn_terms::NoMemory;
 use std::alloc::Global;
 
 // The most nodes of a table whose loose classes are looked for: what that costs grows with their square.
-const NODES: usize = 200;
+const NODES: usize = 1000;
 
 // Nodes that name loose classes, and for each the heights of the classes in which it stands.
 #[derive(Drop)]

@@ -78,10 +78,11 @@ module _ (d : Declarations) where
       -- by the numbers of the sorts of the variables in order of first occurrence, so that each is listed once
       pub in_order : AllPairs (λ v w. IsBefore (sort_numbers (variables_of_terms s) v) (sort_numbers (variables_of_terms s) w)) ways
 
-    -- modulo the axioms u is s and then another substitution that keeps kinds,
-    -- and the least sort of each value of u is read off the value of s
+    -- modulo the axioms u is s and then another substitution that keeps kinds; where a value of u is of its variable's sort, so is that of s,
+    -- as soon as each variable has the least sort of what it becomes
     pub record IsCoveredOnKinds (u : Substitution) : Type 0 where
       pub later : Substitution
       pub keeps : KeepsKinds d later
       pub equal : (x : Var) → Contains vars x → BEqual d (u x) (apply later (substitution s x))
-      pub sorts : (x : Var) → Contains vars x → least_sort d (canon d (u x)) ≡ sort_in d (λ y. least_sort d (canon d (later y))) (value s x)
+      pub sorts : (x : Var) → Contains vars x → AtOrBelow d (least_sort d (canon d (u x))) x.sort
+          → AtOrBelow d (sort_in d (λ y. least_sort d (canon d (later y))) (value s x)) x.sort

@@ -1,5 +1,5 @@
 -- What the highest bits of a number tell of every number that begins with them.
-use Rattle.std.specs.Prelude.{◌≡◌, ℕ, ◌/◌, ◌^◌, ◌+◌, ◌<◌, ◌≤◌, Bool, true, false, if◌then◌else◌, List, length, nat_lt, slice_index, slice_index_or, sum_by, All}
+use Rattle.std.specs.Prelude.{◌≡◌, ℕ, ◌/◌, ◌^◌, ◌+◌, ◌<◌, ◌≤◌, Bool, true, false, if◌then◌else◌, List, length, nat_lt, slice_index, slice_index_or, sum_by, Option, Some, None, All}
 use Rattle.fvn_base.specs.declared.limits.TheConstants.{COMPONENT}
 use Rattle.fvn_lindio.specs.declared.system.Solution.{Solution}
 use Rattle.fvn_acunify.specs.declared.limits.TheConstants.{LISTED_SOLUTIONS}
@@ -41,6 +41,11 @@ CanBeOne changed constants lower sums c = (slice_index sums c ≤ 1) × CanBeFil
 pub record AreBoundsOpen (bounds : ColumnBounds) (changed constants : List ℕ) (lower : List Solution) (sums : List ℕ) : Type 0 where
   pub most : All (λ j. slice_index sums j ≤ 1) bounds.at_most_one
   pub least : All (CanBeFilled changed constants lower sums) bounds.at_least_one
+
+-- full choices alone are listed, with some other columns, and the vector is zero in all constant columns and in these
+abbrev pub IsAsked : Option (List ℕ) → List ℕ → List ℕ → Type 0
+IsAsked None constants v = ⊥
+IsAsked (Some others) constants v = (touched constants v ≡ 0) × (touched others v ≡ 0)
 
 -- and every column can still get what is asked
 pub record IsOpen (changed constants : List ℕ) (may_be_zero : List Bool) (bounds : ColumnBounds) (lower : List Solution) (sums : List ℕ) : Type 0 where
