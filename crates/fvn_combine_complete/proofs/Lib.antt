@@ -14,6 +14,7 @@ mod Taken
 mod Marked
 pub mod Touching
 mod NeutralTold
+mod VanishingTold
 mod Chosen
 mod Obeying
 mod Falling
@@ -24,4 +25,5 @@ mod Setting
 mod Standing
 mod Later
 mod Rightly
+mod Keeping
 mod Covering

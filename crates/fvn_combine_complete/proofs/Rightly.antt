@@ -3,6 +3,7 @@ use Rattle.std.proofs.Common.{◌≡◌, ℕ, ◌<◌, List, [], ◌∷◌, leng
 use Rattle.std.specs.List.{AllByRecursion}
 use Rattle.std.proofs.lemmas.List.Elements.{All-head, All-tail}
 use Rattle.std.proofs.lemmas.Option.{slice_get_within}
+use Rattle.fvn_base.proofs.Membership.{contains_here, contains_later}
 use Rattle.fvn_base.proofs.Options.{Some-injective}
 use Rattle.fvn_terms.specs.declared.plain.Var.{Var}
 use Rattle.fvn_terms.specs.declared.plain.OpId.{OpId}
@@ -13,7 +14,7 @@ use Rattle.fvn_terms.specs.declared.declarations.Rank.{Rank}
 use Rattle.fvn_terms.specs.declared.declarations.Declarations.{Declarations}
 use Rattle.fvn_terms.specs.Term.{Terms, var, app, none, more, pack}
 use Rattle.fvn_terms.specs.Substitution.{Substitution, apply}
-use Rattle.fvn_terms.specs.Signature.{kind, declared, axioms, HasKind, HaveKinds, IsTerm, AtOrBelow}
+use Rattle.fvn_terms.specs.Signature.{kind, declared, axioms, IsSort, HasKind, HaveKinds, IsTerm, AtOrBelow}
 use Rattle.fvn_terms.specs.Unifiers.{Problem}
 use Rattle.fvn_forms.specs.Flat.{FlatTerm, fvar, plain, plain_all, fpack}
 use Rattle.fvn_forms.specs.InOrder.{count, SameCounts}
@@ -29,11 +30,10 @@ use Rattle.fvn_forms.proofs.Instances.{eval_canon}
 use Rattle.fvn_forms.proofs.KindsOfSums.{sum_of_forms_of_kind}
 use Rattle.fvn_forms.proofs.KindsKept.{kind_unique}
 use Rattle.fvn_forms.proofs.LeastSort.{sort_lowers, sort_of_build}
-use Rattle.fvn_forms.proofs.SortOrder.{AtOrBelow-from_same}
 use Rattle.fvn_forms.proofs.Sums.{sum_parts, sum_same_counts}
 use Rattle.fvn_forms.proofs.ToCanon.{canon_of_kind}
 use Rattle.fvn_flat.specs.Problems.{variables_of}
-use Rattle.fvn_flat.specs.SolvedLists.{Plan, Form, unbound, as_member, as_sum, members, IsSimple, IsBinding, bound_as, bound_to, names_of, over_classes}
+use Rattle.fvn_flat.specs.SolvedLists.{Plan, Part, Form, unbound, as_member, as_sum, component, members, IsSimple, IsBinding, bound_as, bound_to, names_of, over_classes}
 use Rattle.fvn_combine_nodes.specs.Table.{NodeTable, IsOver, term_at}
 use Rattle.fvn_combine_nodes.specs.States.{class_of}
 use Rattle.fvn_combine_nodes.specs.Laws.{class_at}
@@ -45,14 +45,14 @@ use Rattle.fvn_combine_leaves.specs.Leaves.{IsSumOperator, Uses}
 use Rattle.fvn_combine_choices.specs.Choosing.{Systems, Choice}
 use Rattle.fvn_combine_choices.specs.Plans.{IsFormBy}
 use Rattle.fvn_combine_complete.specs.LaidOut.{laid_for}
-use Rattle.fvn_combine_complete.proofs.Entries.{entries, members_are, spread_are, each_entry}
+use Rattle.fvn_combine_complete.proofs.Entries.{paired, entries, members_are, spread_are, each_entry}
 use Rattle.fvn_combine_nodes.proofs.Subterms.{node_kinded}
 use Rattle.fvn_combine_complete.proofs.Later.{later, later_flat, value_of_name, value_of_part, value_of_variable}
 use Rattle.fvn_combine_nodes.proofs.NodesOf.{node_of, variable_node, own_class}
 use Rattle.fvn_combine_complete.proofs.Setting.{Setting, value_kinded, class_within, same_value, column_rank, column_within, name_kinded, name_of_kind, column_name}
-use Rattle.fvn_combine_complete.proofs.Spread.{variables_in, spread, Stands, value_of_sum, sort_of_sum}
-use Rattle.fvn_combine_complete.proofs.Standing.{as_many, entry_some, entry_pieces, entry_settled, entry_kinded, variable_kinded}
-use Rattle.fvn_combine_complete.proofs.Unfolding.{env, env_keeps, IsRight}
+use Rattle.fvn_combine_complete.proofs.Spread.{variables_in, spread, Absorbing, Stands, value_of_sum, sum_below}
+use Rattle.fvn_combine_complete.proofs.Standing.{as_many, entry_named, entry_pieces, entry_settled, entry_kinded, variable_kinded}
+use Rattle.fvn_combine_complete.proofs.Unfolding.{env, IsRight}
 use Rattle.fvn_combine_complete.proofs.Values.{bound_used}
 
 module _ {d : Declarations} {problem : Problem} {t : NodeTable} {s : State} {y : Systems} {u : Substitution} {c : Choice} {first next : ℕ} {plan : Plan} (g : Setting d problem t s y u c first next plan) where
@@ -70,13 +70,13 @@ module _ {d : Declarations} {problem : Problem} {t : NodeTable} {s : State} {y :
 
   -- class k bound to a sum of f
   module _ (f : OpId) (k : ℕ) (uses : Uses d t class f k) where
-    sum_operator : IsSumOperator d t f
+    pub sum_operator : IsSumOperator d t f
     sum_operator = record { associative = uses.associative; sum = uses.row; listed = uses.listed }
 
-    abbrev rank : Rank
+    abbrev pub rank : Rank
     rank = (column_rank g f k uses).0
 
-    listed : Contains (declared d f).ranks rank
+    pub listed : Contains (declared d f).ranks rank
     listed = (column_rank g f k uses).1
 
     abbrev Standing : Var × List FlatTerm → Type 0
@@ -88,7 +88,7 @@ module _ {d : Declarations} {problem : Problem} {t : NodeTable} {s : State} {y :
     standing : AllByRecursion Standing es
     standing = each_entry Standing (y.columns f) k (plan.parts f) (g.obeying.pieces f) (λ e among p. record {
       value = value_of_part g f sum_operator e among;
-      some = entry_some g f sum_operator e among;
+      some = entry_named g f sum_operator e among;
       pieces = entry_pieces g f sum_operator e among;
       settled = entry_settled g f sum_operator e among;
       kinded = entry_kinded g f sum_operator e among rank listed;
@@ -133,14 +133,6 @@ module _ {d : Declarations} {problem : Problem} {t : NodeTable} {s : State} {y :
         each [] h = tt
         each (e ∷ l) h = (h.0.variable, each l h.1)
 
-    lowered : (l : List (Var × List FlatTerm)) → AllByRecursion Standing l → AtOrBelow d (sort_in d sorts (sum d f (variables_in l))) (least_sort d (sum d f (spread l)))
-    lowered [] h = AtOrBelow-from_same d (empty_sort (identity (axioms d f)))
-      where
-        empty_sort : (o : Option OpId) → sort_in d sorts (empty_sum d f o) ≡ least_sort d (empty_sum d f o)
-        empty_sort None = refl
-        empty_sort (Some e) = refl
-    lowered (e ∷ l) h = sort_of_sum d g.good (later g) (later_flat g) f uses.associative (kind d rank.result) rank listed refl e l h
-
     within : k < length t.nodes
     within = column_within g f k uses
 
@@ -149,13 +141,30 @@ module _ {d : Declarations} {problem : Problem} {t : NodeTable} {s : State} {y :
       settled = sum_settled d f uses.associative (variables_in es) (variables_pieces es) (variables_settled es) named;
       kinded = λ i. subst (HasKind d (plain (sum d f (variables_in es)))) (sym ((name_kinded g k within).1 ∙ column_name g f k uses rank listed)) (kinded es standing named);
       value = value_of_sum d g.good (later g) (later_flat g) f uses.associative (kind d rank.result) rank listed refl es standing named ∙ sum_is ∙ sym (value_of_name g k within);
-      lowers = λ i. subst (AtOrBelow d (sort_in d sorts (sum d f (variables_in es)))) (ap (least_sort d) (sum_is ∙ sym (value_of_name g k within))) (lowered es standing);
     }
 
+    members_sum : sum d f (members (plan.columns f) (plan.parts f) k) ≡ sum d f (variables_in es)
+    members_sum = ap (λ columns. sum d f (members columns (plan.parts f) k)) (g.plan_by.columns f sum_operator) ∙ ap (sum d f) (members_are (y.columns f) k (plan.parts f) (g.obeying.pieces f) (as_many g f sum_operator))
+
     pub sum_right : (b : Var × FlatTerm) → b.0 ≡ plan.name k → sum d f (members (plan.columns f) (plan.parts f) k) ≡ b.1 → Right b
-    sum_right b e is =
-        let same = ap (λ columns. sum d f (members columns (plan.parts f) k)) (g.plan_by.columns f sum_operator) ∙ ap (sum d f) (members_are (y.columns f) k (plan.parts f) (g.obeying.pieces f) (as_many g f sum_operator)) in
-        subst Right (λ i. ((sym e) i, (sym same ∙ is) i)) right_sum
+    sum_right b e is = subst Right (λ i. ((sym e) i, (sym members_sum ∙ is) i)) right_sum
+
+    abbrev Entry : Type 0
+    Entry = Part × List FlatTerm
+
+    abbrev IsEntry : Entry → Type 0
+    IsEntry e = Contains (paired (plan.parts f) (g.obeying.pieces f)) e
+
+    -- the sum keeps to a sort of its value that absorbs what vanishes, where parts have the least sorts of their values
+    pub sum_keeps : (upper : Var → SortId) → KeepsKindsOfVariables d upper → ((e : Entry) → IsEntry e → upper e.0.variable ≡ sorts e.0.variable)
+        → (q : SortId) → kind d q ≡ kind d rank.result → ((e : Entry) → IsEntry e → 0 < component (y.columns f) e.0.solution k → e.1 ≡ [] → Absorbing d f q)
+        → AtOrBelow d (least_sort d (values k)) q → AtOrBelow d (sort_in d upper (sum d f (members (plan.columns f) (plan.parts f) k))) q
+    sum_keeps upper keeps sorted q of absorbs below =
+        subst (λ v. AtOrBelow d (sort_in d upper v) q) (sym members_sum)
+        (sum_below d g.good (later g) (later_flat g) f uses.associative (kind d rank.result) rank listed refl upper keeps q (record { rank = rank; listed = listed; kind_is = of }) es standing
+        (each_entry (λ e. upper e.0 ≡ sorts e.0) (y.columns f) k (plan.parts f) (g.obeying.pieces f) (λ e among p. sorted e among))
+        (each_entry (λ e. e.1 ≡ [] → Absorbing d f q) (y.columns f) k (plan.parts f) (g.obeying.pieces f) absorbs)
+        (subst (λ v. AtOrBelow d (least_sort d v) q) (sym sum_is) below))
 
   -- class k bound to a member
   module _ (i : ℕ) (f : OpId) (ks : List ℕ) (over : IsOver t.nodes i f ks) (simple : IsSimple (axioms d f)) where
@@ -249,25 +258,27 @@ module _ {d : Declarations} {problem : Problem} {t : NodeTable} {s : State} {y :
     names_plain [] = refl
     names_plain (j ∷ js) = ap (more (var (plan.name (class j)))) (names_plain js)
 
-    name_sorts : (js : List ℕ) → All (λ j. j < length t.nodes) js → map (sort_in d sorts) (map (λ j. fvar (plan.name (class j))) js) ≡ map (least_sort d) (map (λ j. values (class j)) js)
-    name_sorts [] h = refl
-    name_sorts (j ∷ js) h =
+    name_sorts : (upper : Var → SortId) (js : List ℕ) → ((j : ℕ) → Contains js j → upper (plan.name (class j)) ≡ sorts (plan.name (class j))) → All (λ j. j < length t.nodes) js
+        → map (sort_in d upper) (map (λ j. fvar (plan.name (class j))) js) ≡ map (least_sort d) (map (λ j. values (class j)) js)
+    name_sorts upper [] sorted h = refl
+    name_sorts upper (j ∷ js) sorted h =
         let P = λ (j : ℕ). j < length t.nodes in
-        ap (λ q. q ∷ map (sort_in d sorts) (map (λ j. fvar (plan.name (class j))) js)) (ap (least_sort d) (value_of_name g (class j) (class_within g j (All-head P j js h))))
-        ∙ ap (λ l. least_sort d (values (class j)) ∷ l) (name_sorts js (All-tail P j js h))
+        ap (λ q. q ∷ map (sort_in d upper) (map (λ j. fvar (plan.name (class j))) js)) (sorted j (contains_here j js) ∙ ap (least_sort d) (value_of_name g (class j) (class_within g j (All-head P j js h))))
+        ∙ ap (λ l. least_sort d (values (class j)) ∷ l) (name_sorts upper js (λ i c. sorted i (contains_later j js i c)) (All-tail P j js h))
 
     own_keeps : KeepsKindsOfVariables d (λ x. x.sort)
     own_keeps x i = refl
 
-    lowers_to : AtOrBelow d (sort_in d sorts (canon d (app f (named_args ks)))) (least_sort d (values (class i)))
-    lowers_to =
+    lowers_to : (upper : Var → SortId) → KeepsKindsOfVariables d upper → ((j : ℕ) → Contains ks j → upper (plan.name (class j)) ≡ sorts (plan.name (class j)))
+        → AtOrBelow d (sort_in d upper (canon d (app f (named_args ks)))) (least_sort d (values (class i)))
+    lowers_to upper keeps sorted =
         let names = map (λ j. fvar (plan.name (class j))) ks in
-        let lower = sort_lowers d g.good sorts (env_keeps d g.good (later g) (later_flat g)) f names (names_settled ks) node_kind.0 (subst (λ ts. HasKind d (app f ts) node_kind.0) (sym (names_plain ks)) term_kinded) in
+        let lower = sort_lowers d g.good upper keeps f names (names_settled ks) node_kind.0 (subst (λ ts. HasKind d (app f ts) node_kind.0) (sym (names_plain ks)) term_kinded) in
         let forms_are : HasKind d (app f (plain_all (fpack forms))) node_kind.0 = record { rank = args_kinded.rank; listed = args_kinded.listed; args = forms_kinded ks all_within _ args_kinded.args; result = args_kinded.result } in
         let exact = sort_of_build d g.good (λ x. x.sort) own_keeps f forms (forms_settled ks) (forms_some ks) node_kind.0 forms_are in
-        let left = ap (λ l. sort_in d sorts (build d f l)) (variable_forms ks) in
-        let right = ap (result d f) (name_sorts ks all_within) ∙ sym exact ∙ ap (least_sort d) (sym (g.go_with.are.built i f ks over)) in
-        subst (λ q. AtOrBelow d q (least_sort d (values (class i)))) (sym left) (subst (AtOrBelow d (sort_in d sorts (build d f names))) right lower)
+        let left = ap (λ l. sort_in d upper (build d f l)) (variable_forms ks) in
+        let right = ap (result d f) (name_sorts upper ks sorted all_within) ∙ sym exact ∙ ap (least_sort d) (sym (g.go_with.are.built i f ks over)) in
+        subst (λ q. AtOrBelow d q (least_sort d (values (class i)))) (sym left) (subst (AtOrBelow d (sort_in d upper (build d f names))) right lower)
 
     right_member : Right (plan.name (class i), canon d (app f (named_args ks)))
     right_member =
@@ -280,7 +291,6 @@ module _ {d : Declarations} {problem : Problem} {t : NodeTable} {s : State} {y :
           settled = canon_settled d (app f (named_args ks));
           kinded = λ o. subst (HasKind d (plain (canon d (app f (named_args ks))))) (sym (n.1 ∙ same)) (canon_of_kind d g.good.fits (app f (named_args ks)) node_kind.0 term_kinded);
           value = value_is ∙ sym (value_of_name g (class i) l);
-          lowers = λ o. subst (AtOrBelow d (sort_in d sorts (canon d (app f (named_args ks))))) (ap (least_sort d) (sym (value_of_name g (class i) l))) lowers_to;
         }
 
     over_is : over_classes d problem (class_at t class) plan (term_at t.nodes i) ≡ canon d (app f (named_args ks))
@@ -288,6 +298,14 @@ module _ {d : Declarations} {problem : Problem} {t : NodeTable} {s : State} {y :
 
     pub member_right : (k : ℕ) (b : Var × FlatTerm) → class i ≡ k → b.0 ≡ plan.name k → over_classes d problem (class_at t class) plan (term_at t.nodes i) ≡ b.1 → Right b
     member_right k b of e is = subst Right (λ o. ((ap plan.name of ∙ sym e) o, (sym over_is ∙ is) o)) right_member
+
+    -- a member keeps to the least sort of its value, where the names of its arguments have theirs
+    pub member_keeps : (upper : Var → SortId) → KeepsKindsOfVariables d upper → ((j : ℕ) → Contains ks j → upper (plan.name (class j)) ≡ sorts (plan.name (class j)))
+        → (k : ℕ) (v : FlatTerm) → class i ≡ k → over_classes d problem (class_at t class) plan (term_at t.nodes i) ≡ v → AtOrBelow d (sort_in d upper v) (sorts (plan.name k))
+    member_keeps upper keeps sorted k v of is =
+        let value = ap (least_sort d) (ap values of ∙ sym (value_of_name g k (subst (λ n. n < length t.nodes) of (class_within g i within_node)))) in
+        subst (λ v. AtOrBelow d (sort_in d upper v) (sorts (plan.name k))) (sym over_is ∙ is)
+        (subst (AtOrBelow d (sort_in d upper (canon d (app f (named_args ks))))) value (lowers_to upper keeps sorted))
 
   -- each binding is right
   class_right : (k : ℕ) (b : Var × FlatTerm) → k < length t.nodes → b.0 ≡ plan.name k → bound_to d problem (class_at t class) plan k ≡ Some b.1 → Right b
@@ -300,25 +318,37 @@ module _ {d : Declarations} {problem : Problem} {t : NodeTable} {s : State} {y :
           member_right h.0 at.operator at.arguments at.over at.simple k b at.of e (ap (over_classes d problem (class_at t class) plan) h.2 ∙ Some-injective is)
       go (as_sum f) h is = sum_right f k (bound_used d t g.made g.has s g.leaf g.told values g.go_with c.tag g.obeying.tags f k h) b e (Some-injective is)
 
-  variable_right : (b : Var × FlatTerm) → Contains (variables_of problem) b.0 → b.1 ≡ fvar (plan.name (class_at t class (var b.0))) → Right b
-  variable_right b among is =
-      let n = variable_node g.made g.table b.0 among in
+  -- the class of a variable of the problem: its name has the variable's kind, and the class its value
+  pub record IsOfClass (k : ℕ) (x : Var) : Type 0 where
+    pub within : k < length t.nodes
+    pub kinded : IsSort d x.sort → (plan.name k).sort ≡ kind d x.sort
+    pub value : later g x ≡ values k
+
+  pub name_of_class : (k : ℕ) → k < length t.nodes → IsOfClass k (plan.name k)
+  name_of_class k l = record { within = l; kinded = λ i. sym (name_kinded g k l).1; value = value_of_name g k l }
+
+  pub variable_of_class : (x : Var) → Contains (variables_of problem) x → IsOfClass (class_at t class (var x)) x
+  variable_of_class x among =
+      let n = variable_node g.made g.table x among in
       let i = n.number in
       let l = class_within g i n.within in
-      let of : class_at t class (var b.0) ≡ class i = ap (class_at t class) (sym n.is) ∙ own_class g.made g.table class i n.within in
-      let bound : b.1 ≡ fvar (plan.name (class i)) = is ∙ ap (λ k. fvar (plan.name k)) of in
-      let value : values (class i) ≡ canon d (u b.0) = same_value g i n.within ∙ ap (λ v. canon d (apply u v)) n.is in
-      let whole : later g (plan.name (class i)) ≡ later g b.0 = value_of_name g (class i) l ∙ value ∙ sym (value_of_variable g b.0 among) in
-      let names = name_kinded g (class i) l in
+      let of : class i ≡ class_at t class (var x) = sym (own_class g.made g.table class i n.within) ∙ ap (class_at t class) n.is in
+      let value : values (class i) ≡ canon d (u x) = same_value g i n.within ∙ ap (λ v. canon d (apply u v)) n.is in
+      subst (λ k. IsOfClass k x) of (record {
+        within = l;
+        kinded = λ o. kind_unique d g.good.fits (plain (values (class i))) (plan.name (class i)).sort (kind d x.sort) (name_of_kind g (class i) l) (subst (λ v. HasKind d (plain v) (kind d x.sort)) (sym value) (canon_of_kind d g.good.fits (u x) (kind d x.sort) (g.unifier.0 x o)));
+        value = value_of_variable g x among ∙ sym value;
+      })
+
+  variable_right : (b : Var × FlatTerm) → Contains (variables_of problem) b.0 → b.1 ≡ fvar (plan.name (class_at t class (var b.0))) → Right b
+  variable_right b among is =
+      let k = class_at t class (var b.0) in
+      let h = variable_of_class b.0 among in
+      let names = name_kinded g k h.within in
       record {
-        settled = subst (Settled d) (sym bound) tt;
-        kinded = λ o.
-            let same : (plan.name (class i)).sort ≡ kind d b.0.sort =
-            kind_unique d g.good.fits (plain (values (class i))) (plan.name (class i)).sort (kind d b.0.sort) (name_of_kind g (class i) l) (subst (λ v. HasKind d (plain v) (kind d b.0.sort)) (sym value) (canon_of_kind d g.good.fits (u b.0) (kind d b.0.sort) (g.unifier.0 b.0 o)))
-            in
-            subst (λ v. HasKind d (plain v) (kind d b.0.sort)) (sym bound) (names.0, names.1 ∙ same);
-        value = ap (inst d (later g)) bound ∙ whole;
-        lowers = λ o. AtOrBelow-from_same d (ap (sort_in d sorts) bound ∙ ap (least_sort d) whole);
+        settled = subst (Settled d) (sym is) tt;
+        kinded = λ o. subst (λ v. HasKind d (plain v) (kind d b.0.sort)) (sym is) (names.0, names.1 ∙ h.kinded o);
+        value = ap (inst d (later g)) is ∙ value_of_name g k h.within ∙ sym h.value;
       }
 
   pub binding_right : (b : Var × FlatTerm) → IsBinding d problem (class_at t class) plan b → Right b

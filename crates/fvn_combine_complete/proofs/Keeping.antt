@@ -1,0 +1,1 @@
+-- Sorts that bindings keep to.
