@@ -76,11 +76,11 @@ module _ {d : Declarations} {problem : Problem} {t : NodeTable} {s : State} {y :
     abbrev pub rank : Rank
     rank = (column_rank g f k uses).0
 
-    pub listed : Contains (declared d f).ranks rank
-    listed = (column_rank g f k uses).1
+    pub rank_listed : Contains (declared d f).ranks rank
+    rank_listed = (column_rank g f k uses).1
 
     abbrev Standing : Var × List FlatTerm → Type 0
-    Standing = Stands d g.good (later g) (later_flat g) f uses.associative (kind d rank.result) rank listed refl
+    Standing = Stands d g.good (later g) (later_flat g) f uses.associative (kind d rank.result) rank rank_listed refl
 
     abbrev es : List (Var × List FlatTerm)
     es = entries (y.columns f) k (plan.parts f) (g.obeying.pieces f)
@@ -91,8 +91,8 @@ module _ {d : Declarations} {problem : Problem} {t : NodeTable} {s : State} {y :
       some = entry_named g f sum_operator e among;
       pieces = entry_pieces g f sum_operator e among;
       settled = entry_settled g f sum_operator e among;
-      kinded = entry_kinded g f sum_operator e among rank listed;
-      variable = variable_kinded g f sum_operator e among rank listed;
+      kinded = entry_kinded g f sum_operator e among rank rank_listed;
+      variable = variable_kinded g f sum_operator e among rank rank_listed;
     })
 
     -- the pieces of all members are the summands of the class's value
@@ -126,8 +126,8 @@ module _ {d : Declarations} {problem : Problem} {t : NodeTable} {s : State} {y :
     variables_settled (e ∷ l) = (tt, variables_settled l)
 
     kinded : (l : List (Var × List FlatTerm)) → AllByRecursion Standing l → (variables_in l ≡ [] → HasIdentity d f) → HasKind d (plain (sum d f (variables_in l))) (kind d rank.result)
-    kinded [] h n = let i = n refl in subst (λ o. HasKind d (plain (empty_sum d f o)) (kind d rank.result)) (sym i.1) (g.good.fits.identity f i.0 rank i.1 listed)
-    kinded (e ∷ l) h n = sum_of_forms_of_kind d g.good.fits f uses.associative (kind d rank.result) rank listed refl (fvar e.0) (variables_in l) (each (e ∷ l) h)
+    kinded [] h n = let i = n refl in subst (λ o. HasKind d (plain (empty_sum d f o)) (kind d rank.result)) (sym i.1) (g.good.fits.identity f i.0 rank i.1 rank_listed)
+    kinded (e ∷ l) h n = sum_of_forms_of_kind d g.good.fits f uses.associative (kind d rank.result) rank rank_listed refl (fvar e.0) (variables_in l) (each (e ∷ l) h)
       where
         each : (l : List (Var × List FlatTerm)) → AllByRecursion Standing l → AllByRecursion (λ q. HasKind d (plain q) (kind d rank.result)) (variables_in l)
         each [] h = tt
@@ -139,8 +139,8 @@ module _ {d : Declarations} {problem : Problem} {t : NodeTable} {s : State} {y :
     right_sum : Right (plan.name k, sum d f (variables_in es))
     right_sum = record {
       settled = sum_settled d f uses.associative (variables_in es) (variables_pieces es) (variables_settled es) named;
-      kinded = λ i. subst (HasKind d (plain (sum d f (variables_in es)))) (sym ((name_kinded g k within).1 ∙ column_name g f k uses rank listed)) (kinded es standing named);
-      value = value_of_sum d g.good (later g) (later_flat g) f uses.associative (kind d rank.result) rank listed refl es standing named ∙ sum_is ∙ sym (value_of_name g k within);
+      kinded = λ i. subst (HasKind d (plain (sum d f (variables_in es)))) (sym ((name_kinded g k within).1 ∙ column_name g f k uses rank rank_listed)) (kinded es standing named);
+      value = value_of_sum d g.good (later g) (later_flat g) f uses.associative (kind d rank.result) rank rank_listed refl es standing named ∙ sum_is ∙ sym (value_of_name g k within);
     }
 
     members_sum : sum d f (members (plan.columns f) (plan.parts f) k) ≡ sum d f (variables_in es)
@@ -161,7 +161,7 @@ module _ {d : Declarations} {problem : Problem} {t : NodeTable} {s : State} {y :
         → AtOrBelow d (least_sort d (values k)) q → AtOrBelow d (sort_in d upper (sum d f (members (plan.columns f) (plan.parts f) k))) q
     sum_keeps upper keeps sorted q of absorbs below =
         subst (λ v. AtOrBelow d (sort_in d upper v) q) (sym members_sum)
-        (sum_below d g.good (later g) (later_flat g) f uses.associative (kind d rank.result) rank listed refl upper keeps q (record { rank = rank; listed = listed; kind_is = of }) es standing
+        (sum_below d g.good (later g) (later_flat g) f uses.associative (kind d rank.result) rank rank_listed refl upper keeps q (record { rank = rank; listed = rank_listed; kind_is = of }) es standing
         (each_entry (λ e. upper e.0 ≡ sorts e.0) (y.columns f) k (plan.parts f) (g.obeying.pieces f) (λ e among p. sorted e among))
         (each_entry (λ e. e.1 ≡ [] → Absorbing d f q) (y.columns f) k (plan.parts f) (g.obeying.pieces f) absorbs)
         (subst (λ v. AtOrBelow d (least_sort d v) q) (sym sum_is) below))
