@@ -1,10 +1,8 @@
 -- What the bindings of a plan unfold to covers the unifier.
-use Rattle.std.proofs.Common.{ℕ, sym, subst, Contains}
+use Rattle.std.proofs.Common.{ℕ, sym}
 use Rattle.std.proofs.lemmas.List.Elements.{All-weaker}
-use Rattle.fvn_terms.specs.declared.plain.Var.{Var}
 use Rattle.fvn_terms.specs.declared.declarations.Declarations.{Declarations}
 use Rattle.fvn_terms.specs.Substitution.{Substitution}
-use Rattle.fvn_terms.specs.Signature.{IsSort, IsTerm}
 use Rattle.fvn_terms.specs.Unifiers.{Problem}
 use Rattle.fvn_flat.specs.Bindings.{Bindings}
 use Rattle.fvn_flat.specs.Problems.{variables_of}
@@ -18,10 +16,8 @@ use Rattle.fvn_combine_choices.specs.Choosing.{Systems, Choice}
 use Rattle.fvn_combine_choices.specs.Covering.{CoversOnKinds}
 use Rattle.fvn_combine_choices.specs.Plans.{AreBindingsBy, unfolds_to}
 use Rattle.fvn_combine_complete.specs.Laws.{UnifiersGoWith, TablesHaveSums, ValuesObeyChoices, ObeyedChoicesFall, ObeyedChoicesCover, LeavesCover}
-use Rattle.fvn_combine_nodes.proofs.Subterms.{node_kinded}
 use Rattle.fvn_combine_complete.proofs.Keeping.{sorted, keeps_sorts}
 use Rattle.fvn_combine_complete.proofs.Later.{later, later_flat, value_of_variable}
-use Rattle.fvn_combine_nodes.proofs.NodesOf.{variable_node}
 use Rattle.fvn_combine_complete.proofs.Rightly.{binding_right}
 use Rattle.fvn_combine_complete.proofs.Setting.{Setting}
 use Rattle.fvn_combine_complete.proofs.Unfolding.{IsRight, unfolding_covers}

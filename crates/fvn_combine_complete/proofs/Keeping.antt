@@ -1,5 +1,5 @@
 -- What a variable of the problem unfolds to is of the variable's sort where the unifier's value is.
-use Rattle.std.proofs.Common.{◌≡◌, ℕ, ◌+◌, ◌<◌, ◌≤◌, List, length, refl, sym, ap, ◌∙◌, subst, inl, inr, arith, All, Contains, Option, Some, None, slice_get}
+use Rattle.std.proofs.Common.{◌≡◌, ℕ, ◌<◌, List, length, refl, sym, ap, ◌∙◌, subst, inl, inr, arith, All, Contains, Option, Some, None, slice_get}
 use Rattle.std.proofs.lemmas.List.Elements.{All-weaker, All-contains}
 use Rattle.fvn_base.specs.Decided.{Decided}
 use Rattle.fvn_base.proofs.Decided.{some_or_none, decided_by}
@@ -13,15 +13,14 @@ use Rattle.fvn_terms.specs.Substitution.{Substitution, same_var}
 use Rattle.fvn_terms.specs.Signature.{kind, axioms, IsSort, IsTerm, AtOrBelow}
 use Rattle.fvn_terms.specs.Equality.{identity}
 use Rattle.fvn_terms.specs.Unifiers.{Problem}
-use Rattle.fvn_forms.specs.Flat.{FlatTerm, fvar}
+use Rattle.fvn_forms.specs.Flat.{FlatTerm}
 use Rattle.fvn_forms.specs.Canon.{sum}
-use Rattle.fvn_forms.specs.Good.{IsOfKind}
 use Rattle.fvn_forms.specs.LeastSort.{sort_in, least_sort, KeepsKindsOfVariables}
 use Rattle.fvn_forms.proofs.LeastSort.{sort_in-kind}
-use Rattle.fvn_forms.proofs.SortOrder.{AtOrBelow-trans, AtOrBelow-from_same, AtOrBelow-kind}
+use Rattle.fvn_forms.proofs.SortOrder.{AtOrBelow-from_same, AtOrBelow-kind}
 use Rattle.fvn_flat.specs.Bindings.{Bindings}
 use Rattle.fvn_flat.specs.Problems.{variables_of}
-use Rattle.fvn_flat.specs.SolvedLists.{Plan, Part, Form, unbound, as_member, as_sum, component, members, IsSimple, IsBinding, bound_as, bound_to, over_classes}
+use Rattle.fvn_flat.specs.SolvedLists.{Plan, Part, Form, unbound, as_member, as_sum, members, IsSimple, IsBinding, bound_as, bound_to, over_classes}
 use Rattle.fvn_flat.proofs.Binding.{same_var_is, same_var_itself}
 use Rattle.fvn_combine_nodes.specs.Table.{NodeTable, IsOver}
 use Rattle.fvn_combine_nodes.specs.States.{class_of}
