@@ -24,6 +24,7 @@ mod Entries
 mod Setting
 mod Standing
 mod Later
+mod ArgumentSorts
 mod Rightly
 mod Keeping
 mod Covering

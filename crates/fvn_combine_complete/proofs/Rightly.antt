@@ -1,9 +1,8 @@
 -- The bindings of a plan are right for the values.
-use Rattle.std.proofs.Common.{◌≡◌, ℕ, ◌<◌, List, [], ◌∷◌, length, map, refl, sym, ap, ◌∙◌, subst, inl, inr, arith, All, Contains, Some}
-use Rattle.std.specs.List.{AllByRecursion}
+use Rattle.std.proofs.Common.{◌≡◌, ℕ, zero, suc, ◌+◌, ◌<◌, List, [], ◌∷◌, length, map, refl, sym, ap, ◌∙◌, subst, inl, inr, arith, All, Contains, Some, slice_get}
+use Rattle.std.specs.List.{AllByRecursion, AllZip}
 use Rattle.std.proofs.lemmas.List.Elements.{All-head, All-tail}
 use Rattle.std.proofs.lemmas.Option.{slice_get_within}
-use Rattle.fvn_base.proofs.Membership.{contains_here, contains_later}
 use Rattle.fvn_base.proofs.Options.{Some-injective}
 use Rattle.fvn_terms.specs.declared.plain.Var.{Var}
 use Rattle.fvn_terms.specs.declared.plain.OpId.{OpId}
@@ -21,6 +20,7 @@ use Rattle.fvn_forms.specs.InOrder.{count, SameCounts}
 use Rattle.fvn_forms.specs.Canon.{parts, sum, build, canon, eval_all, inst, empty_sum}
 use Rattle.fvn_terms.specs.Equality.{identity}
 use Rattle.fvn_forms.specs.Settled.{Settled, IsPiece}
+use Rattle.fvn_forms.specs.Good.{TakesKinds}
 use Rattle.fvn_forms.specs.Ranks.{result}
 use Rattle.fvn_forms.specs.LeastSort.{sort_in, least_sort, KeepsKindsOfVariables}
 use Rattle.fvn_forms.proofs.Build.{HasIdentity, parts_none, sum_settled}
@@ -30,6 +30,7 @@ use Rattle.fvn_forms.proofs.Instances.{eval_canon}
 use Rattle.fvn_forms.proofs.KindsOfSums.{sum_of_forms_of_kind}
 use Rattle.fvn_forms.proofs.KindsKept.{kind_unique}
 use Rattle.fvn_forms.proofs.LeastSort.{sort_lowers, sort_of_build}
+use Rattle.fvn_forms.proofs.SortOrder.{AtOrBelow-trans}
 use Rattle.fvn_forms.proofs.Sums.{sum_parts, sum_same_counts}
 use Rattle.fvn_forms.proofs.ToCanon.{canon_of_kind}
 use Rattle.fvn_flat.specs.Problems.{variables_of}
@@ -45,14 +46,15 @@ use Rattle.fvn_combine_leaves.specs.Leaves.{IsSumOperator, Uses}
 use Rattle.fvn_combine_choices.specs.Choosing.{Systems, Choice}
 use Rattle.fvn_combine_choices.specs.Plans.{IsFormBy}
 use Rattle.fvn_combine_complete.specs.LaidOut.{laid_for}
+use Rattle.fvn_combine_complete.proofs.ArgumentSorts.{IsArgumentSort, result_stays}
 use Rattle.fvn_combine_complete.proofs.Entries.{paired, entries, members_are, spread_are, each_entry}
 use Rattle.fvn_combine_nodes.proofs.Subterms.{node_kinded}
 use Rattle.fvn_combine_complete.proofs.Later.{later, later_flat, value_of_name, value_of_part, value_of_variable}
 use Rattle.fvn_combine_nodes.proofs.NodesOf.{node_of, variable_node, own_class}
 use Rattle.fvn_combine_complete.proofs.Setting.{Setting, value_kinded, class_within, same_value, column_rank, column_within, name_kinded, name_of_kind, column_name}
-use Rattle.fvn_combine_complete.proofs.Spread.{variables_in, spread, Absorbing, Stands, value_of_sum, sum_below}
+use Rattle.fvn_combine_complete.proofs.Spread.{variables_in, spread, Absorbing, Stands, value_of_sum, sum_agrees, sum_below}
 use Rattle.fvn_combine_complete.proofs.Standing.{as_many, entry_named, entry_pieces, entry_settled, entry_kinded, variable_kinded}
-use Rattle.fvn_combine_complete.proofs.Unfolding.{env, IsRight}
+use Rattle.fvn_combine_complete.proofs.Unfolding.{env, env_keeps, IsRight}
 use Rattle.fvn_combine_complete.proofs.Values.{bound_used}
 
 module _ {d : Declarations} {problem : Problem} {t : NodeTable} {s : State} {y : Systems} {u : Substitution} {c : Choice} {first next : ℕ} {plan : Plan} (g : Setting d problem t s y u c first next plan) where
@@ -155,14 +157,23 @@ module _ {d : Declarations} {problem : Problem} {t : NodeTable} {s : State} {y :
     abbrev IsEntry : Entry → Type 0
     IsEntry e = Contains (paired (plan.parts f) (g.obeying.pieces f)) e
 
-    -- the sum keeps to a sort of its value that absorbs what vanishes, where parts have the least sorts of their values
-    pub sum_keeps : (upper : Var → SortId) → KeepsKindsOfVariables d upper → ((e : Entry) → IsEntry e → upper e.0.variable ≡ sorts e.0.variable)
-        → (q : SortId) → kind d q ≡ kind d rank.result → ((e : Entry) → IsEntry e → 0 < component (y.columns f) e.0.solution k → e.1 ≡ [] → Absorbing d f q)
-        → AtOrBelow d (least_sort d (values k)) q → AtOrBelow d (sort_in d upper (sum d f (members (plan.columns f) (plan.parts f) k))) q
-    sum_keeps upper keeps sorted q of absorbs below =
-        subst (λ v. AtOrBelow d (sort_in d upper v) q) (sym members_sum)
-        (sum_below d g.good (later g) (later_flat g) f uses.associative (kind d rank.result) rank rank_listed refl upper keeps q (record { rank = rank; listed = rank_listed; kind_is = of }) es standing
-        (each_entry (λ e. upper e.0 ≡ sorts e.0) (y.columns f) k (plan.parts f) (g.obeying.pieces f) (λ e among p. sorted e among))
+    abbrev pub bound_sum : FlatTerm
+    bound_sum = sum d f (members (plan.columns f) (plan.parts f) k)
+
+    -- its sort is told by the sorts of the parts
+    pub sum_sort_is : (upper : Var → SortId) → ((e : Entry) → IsEntry e → upper e.0.variable ≡ sorts e.0.variable) → sort_in d upper bound_sum ≡ sort_in d sorts bound_sum
+    sum_sort_is upper sorted =
+        ap (sort_in d upper) members_sum
+        ∙ sum_agrees d f sorts upper es (each_entry (λ e. upper e.0 ≡ sorts e.0) (y.columns f) k (plan.parts f) (g.obeying.pieces f) (λ e among p. sorted e among))
+        ∙ ap (sort_in d sorts) (sym members_sum)
+
+    -- the sum keeps to a sort of its value that absorbs what vanishes
+    pub sum_keeps : (q : SortId) → kind d q ≡ kind d rank.result → ((e : Entry) → IsEntry e → 0 < component (y.columns f) e.0.solution k → e.1 ≡ [] → Absorbing d f q)
+        → AtOrBelow d (least_sort d (values k)) q → AtOrBelow d (sort_in d sorts bound_sum) q
+    sum_keeps q of absorbs below =
+        subst (λ v. AtOrBelow d (sort_in d sorts v) q) (sym members_sum)
+        (sum_below d g.good (later g) (later_flat g) f uses.associative (kind d rank.result) rank rank_listed refl sorts (env_keeps d g.good (later g) (later_flat g)) q (record { rank = rank; listed = rank_listed; kind_is = of }) es standing
+        (each_entry (λ e. sorts e.0 ≡ sorts e.0) (y.columns f) k (plan.parts f) (g.obeying.pieces f) (λ e among p. refl))
         (each_entry (λ e. e.1 ≡ [] → Absorbing d f q) (y.columns f) k (plan.parts f) (g.obeying.pieces f) absorbs)
         (subst (λ v. AtOrBelow d (least_sort d v) q) (sym sum_is) below))
 
@@ -258,27 +269,64 @@ module _ {d : Declarations} {problem : Problem} {t : NodeTable} {s : State} {y :
     names_plain [] = refl
     names_plain (j ∷ js) = ap (more (var (plan.name (class j)))) (names_plain js)
 
-    name_sorts : (upper : Var → SortId) (js : List ℕ) → ((j : ℕ) → Contains js j → upper (plan.name (class j)) ≡ sorts (plan.name (class j))) → All (λ j. j < length t.nodes) js
-        → map (sort_in d upper) (map (λ j. fvar (plan.name (class j))) js) ≡ map (least_sort d) (map (λ j. values (class j)) js)
-    name_sorts upper [] sorted h = refl
-    name_sorts upper (j ∷ js) sorted h =
+    abbrev named_sorts : (Var → SortId) → List ℕ → List SortId
+    named_sorts upper js = map (sort_in d upper) (map (λ j. fvar (plan.name (class j))) js)
+
+    name_sorts : (js : List ℕ) → All (λ j. j < length t.nodes) js → named_sorts sorts js ≡ map (least_sort d) (map (λ j. values (class j)) js)
+    name_sorts [] h = refl
+    name_sorts (j ∷ js) h =
         let P = λ (j : ℕ). j < length t.nodes in
-        ap (λ q. q ∷ map (sort_in d upper) (map (λ j. fvar (plan.name (class j))) js)) (sorted j (contains_here j js) ∙ ap (least_sort d) (value_of_name g (class j) (class_within g j (All-head P j js h))))
-        ∙ ap (λ l. least_sort d (values (class j)) ∷ l) (name_sorts upper js (λ i c. sorted i (contains_later j js i c)) (All-tail P j js h))
+        ap (λ q. q ∷ named_sorts sorts js) (ap (least_sort d) (value_of_name g (class j) (class_within g j (All-head P j js h))))
+        ∙ ap (λ l. least_sort d (values (class j)) ∷ l) (name_sorts js (All-tail P j js h))
+
+    sorts_kinded : (upper : Var → SortId) → KeepsKindsOfVariables d upper → (js : List ℕ) (qs : List SortId) → HaveKinds d (named_args js) qs → map (kind d) (named_sorts upper js) ≡ qs
+    sorts_kinded upper keeps [] [] h = refl
+    sorts_kinded upper keeps [] (q ∷ qs) h = absurd h
+    sorts_kinded upper keeps (j ∷ js) [] h = absurd h
+    sorts_kinded upper keeps (j ∷ js) (q ∷ qs) h =
+        ap (λ z. z ∷ map (kind d) (named_sorts upper js)) (keeps (plan.name (class j)) h.0.0 ∙ h.0.1) ∙ ap (λ zs. q ∷ zs) (sorts_kinded upper keeps js qs h.1)
+
+    names_take : (upper : Var → SortId) → KeepsKindsOfVariables d upper → TakesKinds d f (named_sorts upper ks)
+    names_take upper keeps = record { rank = term_kinded.rank; listed = term_kinded.listed; kinds = sorts_kinded upper keeps ks _ term_kinded.args }
+
+    -- the name of an argument may have another sort than its value: it is below whatever sort of the argument the value's is
+    abbrev FitsAt : (Var → SortId) → ℕ → ℕ → SortId → Type 0
+    FitsAt upper p j a = IsArgumentSort d g.good f simple p a → AtOrBelow d (sorts (plan.name (class j))) a → AtOrBelow d (upper (plan.name (class j))) a
+
+    fit_all : (upper : Var → SortId) (js : List ℕ) (args : List SortId) (n : ℕ) → ((p j : ℕ) (a : SortId) → slice_get js p ≡ Some j → FitsAt upper (n + p) j a)
+        → ((p : ℕ) (a : SortId) → slice_get args p ≡ Some a → IsArgumentSort d g.good f simple (n + p) a)
+        → AllZip (AtOrBelow d) (named_sorts sorts js) args → AllZip (AtOrBelow d) (named_sorts upper js) args
+    fit_all upper [] [] n fits are z = tt
+    fit_all upper [] (a ∷ args) n fits are z = absurd z
+    fit_all upper (j ∷ js) [] n fits are z = absurd z
+    fit_all upper (j ∷ js) (a ∷ args) n fits are z =
+        let next : (p : ℕ) → n + suc p ≡ suc n + p = λ p. omega arith in (
+          fits 0 j a refl (are 0 a refl) z.0,
+          fit_all upper js args (suc n) (λ p i b at. subst (λ m. FitsAt upper m i b) (next p) (fits (suc p) i b at)) (λ p b at. subst (λ m. IsArgumentSort d g.good f simple m b) (next p) (are (suc p) b at)) z.1,
+        )
 
     own_keeps : KeepsKindsOfVariables d (λ x. x.sort)
     own_keeps x i = refl
 
-    lowers_to : (upper : Var → SortId) → KeepsKindsOfVariables d upper → ((j : ℕ) → Contains ks j → upper (plan.name (class j)) ≡ sorts (plan.name (class j)))
+    from_zero : (p : ℕ) → p ≡ 0 + p
+    from_zero p = omega arith
+
+    lowers_to : (upper : Var → SortId) → KeepsKindsOfVariables d upper → ((p j : ℕ) (a : SortId) → slice_get ks p ≡ Some j → FitsAt upper p j a)
         → AtOrBelow d (sort_in d upper (canon d (app f (named_args ks)))) (least_sort d (values (class i)))
-    lowers_to upper keeps sorted =
+    lowers_to upper keeps fits =
         let names = map (λ j. fvar (plan.name (class j))) ks in
+        let low = named_sorts sorts ks in
+        let high = named_sorts upper ks in
         let lower = sort_lowers d g.good upper keeps f names (names_settled ks) node_kind.0 (subst (λ ts. HasKind d (app f ts) node_kind.0) (sym (names_plain ks)) term_kinded) in
         let forms_are : HasKind d (app f (plain_all (fpack forms))) node_kind.0 = record { rank = args_kinded.rank; listed = args_kinded.listed; args = forms_kinded ks all_within _ args_kinded.args; result = args_kinded.result } in
         let exact = sort_of_build d g.good (λ x. x.sort) own_keeps f forms (forms_settled ks) (forms_some ks) node_kind.0 forms_are in
         let left = ap (λ l. sort_in d upper (build d f l)) (variable_forms ks) in
-        let right = ap (result d f) (name_sorts upper ks sorted all_within) ∙ sym exact ∙ ap (least_sort d) (sym (g.go_with.are.built i f ks over)) in
-        subst (λ q. AtOrBelow d q (least_sort d (values (class i)))) (sym left) (subst (AtOrBelow d (sort_in d upper (build d f names))) right lower)
+        let right = ap (result d f) (name_sorts ks all_within) ∙ sym exact ∙ ap (least_sort d) (sym (g.go_with.are.built i f ks over)) in
+        let stays = result_stays d g.good f simple low high
+        (names_take sorts (env_keeps d g.good (later g) (later_flat g))) (names_take upper keeps)
+        (λ args are z. fit_all upper ks args 0 (λ p j a at. subst (λ m. FitsAt upper m j a) (from_zero p) (fits p j a at)) (λ p a at. subst (λ m. IsArgumentSort d g.good f simple m a) (from_zero p) (are p a at)) z) in
+        subst (λ q. AtOrBelow d q (least_sort d (values (class i)))) (sym left)
+        (AtOrBelow-trans d lower (subst (AtOrBelow d (result d f high)) right stays))
 
     right_member : Right (plan.name (class i), canon d (app f (named_args ks)))
     right_member =
@@ -299,13 +347,13 @@ module _ {d : Declarations} {problem : Problem} {t : NodeTable} {s : State} {y :
     pub member_right : (k : ℕ) (b : Var × FlatTerm) → class i ≡ k → b.0 ≡ plan.name k → over_classes d problem (class_at t class) plan (term_at t.nodes i) ≡ b.1 → Right b
     member_right k b of e is = subst Right (λ o. ((ap plan.name of ∙ sym e) o, (sym over_is ∙ is) o)) right_member
 
-    -- a member keeps to the least sort of its value, where the names of its arguments have theirs
-    pub member_keeps : (upper : Var → SortId) → KeepsKindsOfVariables d upper → ((j : ℕ) → Contains ks j → upper (plan.name (class j)) ≡ sorts (plan.name (class j)))
+    -- a member keeps to the least sort of its value, where the names of its arguments fit
+    pub member_keeps : (upper : Var → SortId) → KeepsKindsOfVariables d upper → ((p j : ℕ) (a : SortId) → slice_get ks p ≡ Some j → FitsAt upper p j a)
         → (k : ℕ) (v : FlatTerm) → class i ≡ k → over_classes d problem (class_at t class) plan (term_at t.nodes i) ≡ v → AtOrBelow d (sort_in d upper v) (sorts (plan.name k))
-    member_keeps upper keeps sorted k v of is =
+    member_keeps upper keeps fits k v of is =
         let value = ap (least_sort d) (ap values of ∙ sym (value_of_name g k (subst (λ n. n < length t.nodes) of (class_within g i within_node)))) in
         subst (λ v. AtOrBelow d (sort_in d upper v) (sorts (plan.name k))) (sym over_is ∙ is)
-        (subst (AtOrBelow d (sort_in d upper (canon d (app f (named_args ks))))) value (lowers_to upper keeps sorted))
+        (subst (AtOrBelow d (sort_in d upper (canon d (app f (named_args ks))))) value (lowers_to upper keeps fits))
 
   -- each binding is right
   class_right : (k : ℕ) (b : Var × FlatTerm) → k < length t.nodes → b.0 ≡ plan.name k → bound_to d problem (class_at t class) plan k ≡ Some b.1 → Right b

@@ -10,13 +10,13 @@ use Rattle.fvn_terms.specs.Term.{var}
 use Rattle.fvn_terms.specs.Signature.{kind, declared, axioms, HasKind, AtOrBelow}
 use Rattle.fvn_terms.specs.Equality.{IsAssociative, identity}
 use Rattle.fvn_terms.proofs.AxiomWords.{identity_commutes}
-use Rattle.fvn_forms.specs.Flat.{FlatTerm, fvar, plain}
-use Rattle.fvn_forms.specs.InOrder.{count, SameCounts}
-use Rattle.fvn_forms.specs.Canon.{parts, all_parts, sum, build, inst, empty_sum}
+use Rattle.fvn_forms.specs.Flat.{FlatTerm, fvar, fpack, plain}
+use Rattle.fvn_forms.specs.InOrder.{count, sort, SameCounts}
+use Rattle.fvn_forms.specs.Canon.{parts, all_parts, joined, sum, build, inst, empty_sum}
 use Rattle.fvn_forms.specs.Settled.{Settled, IsPiece}
 use Rattle.fvn_forms.specs.Good.{IsGood, IsOfKind, TakesKinds}
-use Rattle.fvn_forms.specs.LeastSort.{sort_in, least_sort, KeepsKindsOfVariables, IsFlatSubstitution}
-use Rattle.fvn_forms.proofs.InOrder.{count_append, count_sort, each_append}
+use Rattle.fvn_forms.specs.LeastSort.{sum_sort, sort_in, sorts_in, least_sort, KeepsKindsOfVariables, IsFlatSubstitution}
+use Rattle.fvn_forms.proofs.InOrder.{count_append, count_sort, each_append, each_sort}
 use Rattle.fvn_forms.proofs.Sums.{parts_sum, sum_same_counts}
 use Rattle.fvn_forms.proofs.Build.{HasIdentity, build_sum, sum_settled, sort_is_nil}
 use Rattle.fvn_forms.proofs.Instances.{inst_sum}
@@ -54,6 +54,31 @@ sum_of_two d f assoc l m hl hm = sum_same_counts d f (l ++ m) (all_parts d f (su
         let g = ap (count q) (parts_sum d f l hl) ∙ count_sort q l in
         let h = ap (count q) (parts_sum d f m hm) ∙ count_sort q m in
         omega (arith, a, b, e, g, h)
+
+-- a sum of variables has one sort for sorts of variables that agree on them
+module _ (d : Declarations) (f : OpId) (low high : Var → SortId) where
+  abbrev Agrees : FlatTerm → Type 0
+  Agrees q = sort_in d high q ≡ sort_in d low q
+
+  sorts_agree : (l : List FlatTerm) → AllByRecursion Agrees l → sorts_in d high (fpack l) ≡ sorts_in d low (fpack l)
+  sorts_agree [] h = refl
+  sorts_agree (q ∷ l) h = ap (λ s. s ∷ sorts_in d high (fpack l)) h.0 ∙ ap (λ ss. sort_in d low q ∷ ss) (sorts_agree l h.1)
+
+  joined_agrees : (l : List FlatTerm) → AllByRecursion Agrees l → Agrees (joined d f l)
+  joined_agrees [] h = go (identity (axioms d f))
+    where
+      go : (o : Option OpId) → Agrees (empty_sum d f o)
+      go None = refl
+      go (Some e) = refl
+  joined_agrees (q ∷ []) h = h.0
+  joined_agrees (q ∷ p ∷ l) h = ap (sum_sort d f) (sorts_agree (q ∷ p ∷ l) h)
+
+  pub sum_agrees : (es : List (Var × List FlatTerm)) → AllByRecursion (λ e. high e.0 ≡ low e.0) es → sort_in d high (sum d f (variables_in es)) ≡ sort_in d low (sum d f (variables_in es))
+  sum_agrees es h = joined_agrees (sort (variables_in es)) (each_sort Agrees (variables_in es) (each es h))
+    where
+      each : (es : List (Var × List FlatTerm)) → AllByRecursion (λ e. high e.0 ≡ low e.0) es → AllByRecursion Agrees (variables_in es)
+      each [] h = tt
+      each (e ∷ es) h = (h.0, each es h.1)
 
 module _ (d : Declarations) (good : IsGood d) (w : Var → FlatTerm) (flat : IsFlatSubstitution d w) (f : OpId) (assoc : IsAssociative (axioms d f)) (k : SortId) (r : Rank) (listed : Contains (declared d f).ranks r) (gives : kind d r.result ≡ k) where
   -- the value of the variable is the sum of its pieces, of which there are some, or f has an identity
