@@ -1,5 +1,5 @@
 -- What a variable of the problem unfolds to is of the variable's sort where the unifier's value is.
-use Rattle.std.proofs.Common.{◌≡◌, ℕ, zero, suc, ◌<◌, List, [], ◌∷◌, length, refl, sym, ap, ◌∙◌, subst, inl, inr, arith, All, Contains, Option, Some, None, slice_get}
+use Rattle.std.proofs.Common.{◌≡◌, ℕ, zero, suc, ◌<◌, List, [], ◌∷◌, length, refl, sym, ap, ◌∙◌, subst, inl, inr, arith, All, Contains, Some, None, slice_get}
 use Rattle.std.proofs.lemmas.List.Elements.{All-weaker, All-contains}
 use Rattle.fvn_base.specs.Decided.{Decided}
 use Rattle.fvn_base.proofs.Decided.{some_or_none, decided_by}

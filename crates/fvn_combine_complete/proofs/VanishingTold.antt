@@ -1,5 +1,5 @@
 -- A solution may stand for the identity, or it may not.
-use Rattle.std.proofs.Common.{◌≡◌, ◌≢◌, ◌⊎◌, ℕ, zero, suc, ◌<◌, List, length, refl, sym, ◌∙◌, subst, inl, inr, arith, Option, Some, None, Contains, slice_get}
+use Rattle.std.proofs.Common.{◌≡◌, ◌⊎◌, ℕ, zero, suc, ◌<◌, List, length, refl, sym, ◌∙◌, subst, inl, inr, arith, Option, Some, None, Contains, slice_get}
 use Rattle.std.proofs.lemmas.Bool.{cases_eq, cases_lt}
 use Rattle.std.proofs.lemmas.Option.{slice_get_within}
 use Rattle.fvn_base.specs.Decided.{Decided}
