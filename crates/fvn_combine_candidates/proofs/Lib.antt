@@ -2,6 +2,7 @@
 pub mod Entries
 mod Systems
 mod Refused
+mod Fullness
 mod Possible
 mod Bounded
 mod Tagged

@@ -79,7 +79,10 @@ fn choices_of(
 {
     let theory = theory(alloc, sig, table, state, reading, tags, sums)?;
     match choices_among(alloc, &theory, basis) {
-        Ok(choices) => listed(alloc, sig, table, state, reading, sums, choices),
+        Ok(choices) => {
+            let full = listed(alloc, sig, table, state, reading, sums, choices)?;
+            Ok(full)
+        }
         Err(_) => Err(NoMemory),
     }
 }
