@@ -1,5 +1,5 @@
 -- Full choices, where there is an identity.
-use Rattle.std.proofs.Common.{List, ℕ, sym, ap, ◌∙◌, subst, Option, Some}
+use Rattle.std.proofs.Common.{sym, ap, ◌∙◌, subst}
 use Rattle.fvn_acunify.specs.Cursor.{Cursor}
 use Rattle.fvn_combine_nodes.specs.States.{class_of}
 use Rattle.fvn_combine_candidates.specs.Turning.{AreOthers, IsFullFor}
@@ -15,4 +15,4 @@ returns-in_ok-others-in-Some-clause-full c =
     let class = class_of c.args.state.now in
     let e = c.args.sums.now in
     subst (IsFullFor d t class e) (sym (ap (λ (k : Cursor). k.full) c.list_full.ensures))
-    (c.in-Some.e, sym c.identity.ensures ∙ c.in-Some.is, subst (AreOthers d t class e c.in-Some.e) (sym c.from_vec.ensures) c.in_ok-others.ensures)
+    (c.in-Some.e, sym c.identity.ensures ∙ c.in-Some.is, subst (AreOthers d t class e c.in-Some.e) (sym c.from_vec.ensures) c.in_ok-others-in-Some.ensures)
