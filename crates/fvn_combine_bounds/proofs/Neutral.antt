@@ -6,7 +6,7 @@ use Rattle.fvn_terms.specs.declared.declarations.Declarations.{Declarations}
 use Rattle.fvn_terms.specs.Term.{none}
 use Rattle.fvn_terms.specs.Signature.{axioms, kind, HaveKinds}
 use Rattle.fvn_terms.specs.Equality.{identity}
-use Rattle.fvn_forms.specs.Good.{IsOfKind, TakesKinds}
+use Rattle.fvn_forms.specs.Good.{IsGood, IsOfKind, TakesKinds}
 use Rattle.fvn_forms.specs.Ranks.{result}
 use Rattle.fvn_forms.proofs.Results.{result-kind}
 use Rattle.fvn_combine_complete.specs.Neutral.{Absorbs}
