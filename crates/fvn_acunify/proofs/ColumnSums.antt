@@ -1,9 +1,9 @@
 -- Sums over a column of vectors.
-use Rattle.std.proofs.Common.{◌≡◌, ◌↔◌, ℕ, ◌+◌, ◌<◌, ◌≤◌, Bool, true, false, not, IsTrue, nat_lt, List, [], ◌∷◌, length, take, get_or, slice_index, All, refl, ap, sym, inl, inr, arith}
+use Rattle.std.proofs.Common.{◌≡◌, ◌↔◌, ℕ, ◌+◌, ◌<◌, ◌≤◌, Bool, true, false, not, IsTrue, nat_lt, cond, List, [], ◌∷◌, length, take, get_or, slice_index, All, refl, ap, sym, subst, ◌∙◌, inl, inr, arith}
 use Rattle.std.proofs.lemmas.Bool.{cond-true, cond-false, cond_both, lt-ltb, le-ltb, true≢false, cases_lt}
 use Rattle.std.proofs.lemmas.List.{get_or_past}
 use Rattle.std.proofs.lemmas.List.Elements.{All-head, All-tail}
-use Rattle.std.proofs.lemmas.List.Sums.{sum_by-cons, sum_by_more, get_or-le-sum_by}
+use Rattle.std.proofs.lemmas.List.Sums.{sum_by-cons, sum_by_more, get_or-le-sum_by, count_by_more_no}
 use Rattle.fvn_lindio.specs.declared.system.Solution.{Solution}
 use Rattle.fvn_acunify.specs.ValidChoice.{column_sum, touched}
 use Rattle.fvn_acunify.specs.inner.Prefix.{useful_part, useful_sum}
@@ -61,3 +61,16 @@ useful_sum-past constants n j (v ∷ list) sized past =
     let here : slice_index v.parts j ≡ 0 = get_or_past v.parts j 0 (omega (arith, long, past)) in
     let rest = useful_sum-past constants n j list (All-tail (λ (w : Solution). length w.parts ≡ n) v list sized) past in
     omega (arith, useful_sum-cons constants j v list, useful_part-le constants j v.parts, here, rest)
+
+-- ---- in how many columns a vector is other than zero
+
+-- a column in which it is above zero counts
+pub touched-some : (columns v : List ℕ) (i d part : ℕ) → i < length columns → part ≡ slice_index v (get_or columns i d) → 0 < part → 0 < touched columns v
+touched-some columns v i d part within is some =
+    let here : ◌≡◌ {A = ℕ} (cond (nat_lt 0 (slice_index v (get_or columns i d))) 1 0) 1 = cond-true _ _ _ (lt-ltb 0 (slice_index v (get_or columns i d)) (subst (λ n. 0 < n) is some)) in
+    omega (arith, here, get_or-le-sum_by (λ c. cond (nat_lt 0 (slice_index v c)) 1 0) columns i d within)
+
+-- a column more in which it is zero does not
+pub touched-take_more : (columns v : List ℕ) (i d part : ℕ) → i < length columns → part ≡ slice_index v (get_or columns i d) → part ≤ 0 → touched (take i columns) v ≡ 0 → touched (take (i + 1) columns) v ≡ 0
+touched-take_more columns v i d part within is none before =
+    count_by_more_no (λ c. nat_lt 0 (slice_index v c)) columns i d within (le-ltb 0 (slice_index v (get_or columns i d)) (subst (λ n. n ≤ 0) is none)) ∙ before

@@ -1,5 +1,5 @@
 -- What the highest bits of a number tell of every number that begins with them.
-use Rattle.std.proofs.Common.{◌≡◌, ◌≢◌, ℕ, zero, suc, ◌+◌, ◌-◌, ◌*◌, ◌/◌, ◌%◌, ◌^◌, ◌<◌, ◌≤◌, Bool, true, false, cond, eqb, List, [], ◌∷◌, ◌++◌, length, take, drop, get_or, replicate, slice_index, slice_index_or, All, refl, ap, sym, subst, ◌∙◌, inl, inr, arith}
+use Rattle.std.proofs.Common.{◌≡◌, ◌≢◌, ℕ, zero, suc, ◌+◌, ◌-◌, ◌*◌, ◌/◌, ◌%◌, ◌^◌, ◌<◌, ◌≤◌, Bool, true, false, cond, eqb, List, [], ◌∷◌, ◌++◌, length, take, drop, get_or, replicate, slice_index, slice_index_or, Option, Some, None, All, refl, ap, sym, subst, ◌∙◌, inl, inr, arith}
 use Rattle.std.proofs.lemmas.Bool.{cond-true, cond-false, eq-eqb, ne_eqb, cases_lt}
 use Rattle.std.proofs.lemmas.Nat.{shr-shr, pow_pos, div-add-mod', le-div}
 use Rattle.std.proofs.lemmas.List.{drop_more, drop_all, get_or_past, get_or_default, get_or-map, get_or-replicate, length-map, length-replicate}
@@ -9,7 +9,7 @@ use Rattle.fvn_lindio.specs.Systems.{vectors_of}
 use Rattle.fvn_lindio.specs.declared.system.Solution.{Solution}
 use Rattle.fvn_acunify.specs.declared.theory.ColumnBounds.{ColumnBounds}
 use Rattle.fvn_acunify.specs.ValidChoice.{IsListed, chosen, column_sum, touched}
-use Rattle.fvn_acunify.specs.inner.Prefix.{CanBeFilled, IsBounded, IsChanged, IsDead, IsOpen, useful_part, useful_sum}
+use Rattle.fvn_acunify.specs.inner.Prefix.{CanBeFilled, IsAsked, IsBounded, IsChanged, IsDead, IsOpen, useful_part, useful_sum}
 use Rattle.fvn_acunify.proofs.ColumnSums.{column_sum-cons, useful_part-apart, useful_part-le, useful_sum-cons, useful_sum-take_more}
 
 -- ---- a number's bits from a place on
@@ -159,7 +159,7 @@ vector_at : (basis : List Solution) (p : ℕ) (d : Solution) → p < length basi
 vector_at basis p d within = get_or-map (λ (v : Solution). v.parts) basis p d [] within
 
 -- where the sums leave a column without what is asked, all numbers with these higher bits are out
-pub dead-from_closed : (full : Bool) (constants : List ℕ) (may_be_zero : List Bool) (bounds : ColumnBounds) (basis : List Solution) (number place : ℕ) (sums changed : List ℕ) → IsWalked constants basis number place sums → (IsOpen changed constants may_be_zero bounds (take place basis) sums → ⊥) → IsDead (IsListed full constants may_be_zero bounds (vectors_of basis)) number place
+pub dead-from_closed : (full : Option (List ℕ)) (constants : List ℕ) (may_be_zero : List Bool) (bounds : ColumnBounds) (basis : List Solution) (number place : ℕ) (sums changed : List ℕ) → IsWalked constants basis number place sums → (IsOpen changed constants may_be_zero bounds (take place basis) sums → ⊥) → IsDead (IsListed full constants may_be_zero bounds (vectors_of basis)) number place
 dead-from_closed full constants may_be_zero bounds basis number place sums changed walked closed b same listed =
     let valid = listed.valid in
     let at = column_sum-at constants basis number place sums walked b same valid.apart in
@@ -173,7 +173,7 @@ dead-from_closed full constants may_be_zero bounds basis number place sums chang
     })
 
 -- where the solution at a place touches two constants, all numbers with its bit and these higher bits are out
-pub dead-from_touched : (full : Bool) (constants : List ℕ) (may_be_zero : List Bool) (bounds : ColumnBounds) (basis : List Solution) (number p : ℕ) (parts : List ℕ) (d : Solution) → p < length basis → number / 2 ^ p % 2 ≡ 1 → parts ≡ (get_or basis p d).parts → 1 < touched constants parts → IsDead (IsListed full constants may_be_zero bounds (vectors_of basis)) number p
+pub dead-from_touched : (full : Option (List ℕ)) (constants : List ℕ) (may_be_zero : List Bool) (bounds : ColumnBounds) (basis : List Solution) (number p : ℕ) (parts : List ℕ) (d : Solution) → p < length basis → number / 2 ^ p % 2 ≡ 1 → parts ≡ (get_or basis p d).parts → 1 < touched constants parts → IsDead (IsListed full constants may_be_zero bounds (vectors_of basis)) number p
 dead-from_touched full constants may_be_zero bounds basis number p parts d within bit is touches b same listed =
     let valid = listed.valid in
     let bit_b : b / 2 ^ p % 2 ≡ 1 = ap (λ n. n % 2) same ∙ bit in
@@ -182,25 +182,32 @@ dead-from_touched full constants may_be_zero bounds basis number p parts d withi
     let one : touched constants parts ≤ 1 = All-middle (λ v. touched constants v ≤ 1) lower (higher b (p + 1) basis) parts (All-same (λ v. touched constants v ≤ 1) (lower ++ parts ∷ higher b (p + 1) basis) (chosen b (vectors_of basis)) (sym split) valid.apart) in
     omega arith
 
--- where a solution that must be taken is not, all numbers with these higher bits are out
-pub dead-from_missing : (full : Bool) (constants : List ℕ) (may_be_zero : List Bool) (bounds : ColumnBounds) (basis : List Solution) (number p : ℕ) (parts : List ℕ) (d : Solution) → full ≡ true → p < length basis → number / 2 ^ p % 2 ≢ 1 → parts ≡ (get_or basis p d).parts → touched constants parts ≡ 0 → IsDead (IsListed full constants may_be_zero bounds (vectors_of basis)) number p
-dead-from_missing full constants may_be_zero bounds basis number p parts d is_full within bit is bare b same listed =
-    bit (ap (λ n. n % 2) (sym same) ∙ listed.whole is_full p (rw length-map within) (ap (touched constants) (vector_at basis p d within ∙ sym is) ∙ bare))
+-- a listed choice takes each solution that is asked for
+taken-from_listed : (full : Option (List ℕ)) (constants : List ℕ) (may_be_zero : List Bool) (bounds : ColumnBounds) (basis : List (List ℕ)) (b : ℕ) → IsListed full constants may_be_zero bounds basis b → (i : ℕ) → i < length basis → IsAsked full constants (slice_index_or basis i []) → b / 2 ^ i % 2 ≡ 1
+taken-from_listed None constants may_be_zero bounds basis b listed i within asked = absurd asked
+taken-from_listed (Some others) constants may_be_zero bounds basis b listed i within asked = listed.whole others refl i within asked.0 asked.1
 
--- from a place on every solution that must be taken is
-abbrev pub IsFullFrom : Bool → List ℕ → List Solution → ℕ → ℕ → Type 0
-IsFullFrom full constants basis number place = full ≡ true → (i : ℕ) → place ≤ i → i < length basis → touched constants (get_or (vectors_of basis) i []) ≡ 0 → number / 2 ^ i % 2 ≡ 1
+-- where a solution that is asked for is not taken, all numbers with these higher bits are out
+pub dead-from_missing : (full : Option (List ℕ)) (constants : List ℕ) (may_be_zero : List Bool) (bounds : ColumnBounds) (basis : List Solution) (number p : ℕ) (parts : List ℕ) (d : Solution) → p < length basis → number / 2 ^ p % 2 ≢ 1 → parts ≡ (get_or basis p d).parts → IsAsked full constants parts → IsDead (IsListed full constants may_be_zero bounds (vectors_of basis)) number p
+dead-from_missing full constants may_be_zero bounds basis number p parts d within bit is asked b same listed =
+    bit (ap (λ n. n % 2) (sym same) ∙ taken-from_listed full constants may_be_zero bounds (vectors_of basis) b listed p (rw length-map within)
+    (subst (IsAsked full constants) (is ∙ sym (vector_at basis p d within)) asked))
 
-pub full-from_taken : (full : Bool) (constants : List ℕ) (basis : List Solution) (number place p : ℕ) → p + 1 ≡ place → number / 2 ^ p % 2 ≡ 1 → IsFullFrom full constants basis number place → IsFullFrom full constants basis number p
-full-from_taken full constants basis number place p e bit rest is_full i from within bare = elim (cases_lt p i) [
-  | inl later ↦ rest is_full i (omega (arith, later, e)) within bare
+-- from a place on every solution that is asked for is taken
+abbrev pub IsFullFrom : Option (List ℕ) → List ℕ → List Solution → ℕ → ℕ → Type 0
+IsFullFrom full constants basis number place = (i : ℕ) → place ≤ i → i < length basis → IsAsked full constants (get_or (vectors_of basis) i []) → number / 2 ^ i % 2 ≡ 1
+
+pub full-from_taken : (full : Option (List ℕ)) (constants : List ℕ) (basis : List Solution) (number place p : ℕ) → p + 1 ≡ place → number / 2 ^ p % 2 ≡ 1 → IsFullFrom full constants basis number place → IsFullFrom full constants basis number p
+full-from_taken full constants basis number place p e bit rest i from within asked = elim (cases_lt p i) [
+  | inl later ↦ rest i (omega (arith, later, e)) within asked
   | inr here ↦ (let is : p ≡ i = omega (arith, here, from) in subst (λ j. number / 2 ^ j % 2 ≡ 1) is bit)
 ]
 
-pub full-from_skipped : (full : Bool) (constants : List ℕ) (basis : List Solution) (number place p : ℕ) (parts : List ℕ) (d : Solution) → p + 1 ≡ place → p < length basis → parts ≡ (get_or basis p d).parts → ((full ≡ true) × (touched constants parts ≡ 0) → ⊥) → IsFullFrom full constants basis number place → IsFullFrom full constants basis number p
-full-from_skipped full constants basis number place p parts d e inside is other rest is_full i from within bare = elim (cases_lt p i) [
-  | inl later ↦ rest is_full i (omega (arith, later, e)) within bare
-  | inr here ↦ (let same : p ≡ i = omega (arith, here, from) in absurd (other (is_full, ap (touched constants) (is ∙ sym (vector_at basis p d inside)) ∙ subst (λ j. touched constants (get_or (vectors_of basis) j []) ≡ 0) (sym same) bare)))
+pub full-from_skipped : (full : Option (List ℕ)) (constants : List ℕ) (basis : List Solution) (number place p : ℕ) (parts : List ℕ) (d : Solution) → p + 1 ≡ place → p < length basis → parts ≡ (get_or basis p d).parts → (IsAsked full constants parts → ⊥) → IsFullFrom full constants basis number place → IsFullFrom full constants basis number p
+full-from_skipped full constants basis number place p parts d e inside is other rest i from within asked = elim (cases_lt p i) [
+  | inl later ↦ rest i (omega (arith, later, e)) within asked
+  | inr here ↦ (let same : p ≡ i = omega (arith, here, from) in
+      absurd (other (subst (IsAsked full constants) (sym (is ∙ sym (vector_at basis p d inside))) (subst (λ j. IsAsked full constants (get_or (vectors_of basis) j [])) (sym same) asked))))
 ]
 
 -- a vector without columns leaves none unasked
@@ -235,8 +242,8 @@ open-on constants may_be_zero bounds basis place p sums added parts d e within i
       };
     }
 
--- a number that was walked to its last bit, with every column as asked and every solution that must be taken, is listed
-pub listed-from_open : (full : Bool) (constants : List ℕ) (may_be_zero : List Bool) (bounds : ColumnBounds) (basis : List Solution) (number : ℕ) (sums : List ℕ) → IsWalked constants basis number 0 sums → IsOpen [] constants may_be_zero bounds (take 0 basis) sums → IsFullFrom full constants basis number 0 → number < 2 ^ length basis → IsListed full constants may_be_zero bounds (vectors_of basis) number
+-- a number that was walked to its last bit, with every column as asked and every solution that is asked for taken, is listed
+pub listed-from_open : (full : Option (List ℕ)) (constants : List ℕ) (may_be_zero : List Bool) (bounds : ColumnBounds) (basis : List Solution) (number : ℕ) (sums : List ℕ) → IsWalked constants basis number 0 sums → IsOpen [] constants may_be_zero bounds (take 0 basis) sums → IsFullFrom full constants basis number 0 → number < 2 ^ length basis → IsListed full constants may_be_zero bounds (vectors_of basis) number
 listed-from_open full constants may_be_zero bounds basis number sums walked all_open taken within =
     let same : number / 1 ≡ number = omega arith in
     let whole : higher number 0 basis ≡ chosen number (vectors_of basis) = ap (λ n. chosen n (vectors_of basis)) same in
@@ -251,11 +258,12 @@ listed-from_open full constants may_be_zero bounds basis number sums walked all_
         most = λ k d h. omega (arith, all_open.bounded.most k d h, walked.summed (slice_index_or bounds.at_most_one k d), ap (column_sum (slice_index_or bounds.at_most_one k d)) whole);
         least = λ k d h. omega (arith, all_open.bounded.least k d h (all_changed (slice_index_or bounds.at_least_one k d)), walked.summed (slice_index_or bounds.at_least_one k d), ap (column_sum (slice_index_or bounds.at_least_one k d)) whole);
       };
-      whole = λ is_full i l bare. taken is_full i (omega arith) (let n = length-map basis (λ (v : Solution). v.parts) in omega (arith, l, n)) bare;
+      whole = λ others is i l bare rest. taken i (omega arith) (let n = length-map basis (λ (v : Solution). v.parts) in omega (arith, l, n))
+          (subst (λ o. IsAsked o constants (get_or (vectors_of basis) i [])) (sym is) (bare, rest));
     }
 
 -- a jump below all numbers with the same higher bits passes no choice that is listed
-pub jump_skips_none : (full : Bool) (constants : List ℕ) (may_be_zero : List Bool) (bounds : ColumnBounds) (basis : List Solution) (number place : ℕ) → IsDead (IsListed full constants may_be_zero bounds (vectors_of basis)) number place → (a : ℕ) → a ≤ number → IsListed full constants may_be_zero bounds (vectors_of basis) a → a < number - number % 2 ^ place
+pub jump_skips_none : (full : Option (List ℕ)) (constants : List ℕ) (may_be_zero : List Bool) (bounds : ColumnBounds) (basis : List Solution) (number place : ℕ) → IsDead (IsListed full constants may_be_zero bounds (vectors_of basis)) number place → (a : ℕ) → a ≤ number → IsListed full constants may_be_zero bounds (vectors_of basis) a → a < number - number % 2 ^ place
 jump_skips_none full constants may_be_zero bounds basis number place dead a upto valid =
     elim (cases_lt a (number - number % 2 ^ place)) [
       | inl below ↦ below

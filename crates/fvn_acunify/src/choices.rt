@@ -134,7 +134,8 @@ impl Choices {
     /// Lists from now on full choices alone, which take every solution that is zero in all constant
     /// columns, and in all of these others, and goes back to the start.
     pub fn list_full(&mut self, others: Seq<usize>)
-        ensures { self.new ≡ record self.old { full = Some others; below = 2 ^ length self.old.basis } }
+        ensures { self.new
+            ≡ record self.old { full = Some others; below = 2 ^ length self.old.basis } }
     {
         self.full = Some(others);
         self.again();

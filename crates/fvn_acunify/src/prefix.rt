@@ -83,8 +83,8 @@ fn is_zero_in(columns: &[usize], parts: &[u32]) -> bool
     true
 }
 
-/// Whether full choices alone are listed, and the solution is zero in all constant columns, and in the others that
-/// are named.
+/// Whether full choices alone are listed, and the solution is zero in all constant columns, and in
+/// the others.
 fn is_asked(full: &Option<Seq<usize>>, constants: &[usize], parts: &[u32]) -> bool
     ensures { IsTrue result ↔ IsAsked full.now constants.now parts.now }
 {

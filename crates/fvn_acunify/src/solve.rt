@@ -1,5 +1,5 @@
 //! The choices of a theory, from its system or from its minimal solutions.
-ghost use Rattle.std.specs.Prelude.{false, ◌≡◌, ◌≢◌, ◌↔◌, ◌≤◌, ℕ, List, IfOk, IfErr, length, All, AllPairs, Contains};
+ghost use Rattle.std.specs.Prelude.{None, ◌≡◌, ◌≢◌, ◌↔◌, ◌≤◌, ℕ, List, IfOk, IfErr, length, All, AllPairs, Contains};
 ghost use Rattle.fvn_base.specs.Order.{IsBefore};
 ghost use Rattle.fvn_lindio.specs.Systems.{IsMinimal, rows_of, vectors_of};
 ghost use Rattle.fvn_lindio.specs.declared.system.LinFault.{LinFault as Refusal};
@@ -27,7 +27,7 @@ pub fn solve_one(alloc: Global, theory: &OneTheory) -> Result<Choices, OneFault>
     ensures narrow { IfOk result (λ c. All (All (λ a. a ≤ COMPONENT)) (vectors_of c.basis)) }
     ensures constants { IfOk result (λ c. c.constants ≡ theory.now.constants) }
     ensures may_be_zero { IfOk result (λ c. c.may_be_zero ≡ theory.now.may_be_zero) }
-    ensures every_valid { IfOk result (λ c. c.full ≡ false) }
+    ensures every_valid { IfOk result (λ c. c.full ≡ None) }
     ensures bounds { IfOk result (λ c. c.bounds ≡ unbounded) }
     ensures all_pending { IfOk result (λ c. (b : ℕ) →
         IsValid theory.now.constants theory.now.may_be_zero (vectors_of c.basis) b → Pending c b) }
@@ -78,7 +78,7 @@ pub fn choices_among(
     ensures basis { IfOk result (λ c. c.basis ≡ solutions.now) }
     ensures constants { IfOk result (λ c. c.constants ≡ theory.now.constants) }
     ensures may_be_zero { IfOk result (λ c. c.may_be_zero ≡ theory.now.may_be_zero) }
-    ensures every_valid { IfOk result (λ c. c.full ≡ false) }
+    ensures every_valid { IfOk result (λ c. c.full ≡ None) }
     ensures bounds { IfOk result (λ c. c.bounds ≡ unbounded) }
     ensures all_pending { IfOk result (λ c. (b : ℕ) →
         IsValid theory.now.constants theory.now.may_be_zero (vectors_of c.basis) b → Pending c b) }

@@ -36,8 +36,7 @@ fn listed(
     reading: &Reading,
     sums: &Sums,
     mut choices: Choices,
-) -> Result<Choices, NoMemory>
-{
+) -> Result<Choices, NoMemory> {
     match sig.identity(sums.operator) {
         None => {}
         Some(e) => {

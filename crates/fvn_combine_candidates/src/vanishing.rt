@@ -7,8 +7,7 @@ use fvn_terms::{Axioms, NoMemory, OpId};
 use std::alloc::Global;
 
 // Whether another operator uses class k.
-fn has_other_user(sums: &[Sums], f: OpId, k: usize) -> bool
-{
+fn has_other_user(sums: &[Sums], f: OpId, k: usize) -> bool {
     for s in sums {
         if s.operator == f {
             continue;
@@ -21,8 +20,7 @@ fn has_other_user(sums: &[Sums], f: OpId, k: usize) -> bool
 }
 
 // Whether one of these nodes is in class k.
-fn is_among(state: &State, nodes: &[usize], k: usize) -> bool
-{
+fn is_among(state: &State, nodes: &[usize], k: usize) -> bool {
     for i in nodes {
         if state.class_of(*i) == k {
             return true;
@@ -32,8 +30,7 @@ fn is_among(state: &State, nodes: &[usize], k: usize) -> bool
 }
 
 // Whether the operator is associative.
-fn is_sum(sig: &Signature, g: OpId) -> bool
-{
+fn is_sum(sig: &Signature, g: OpId) -> bool {
     match sig.axioms(g) {
         Axioms::Free => false,
         Axioms::Comm => false,
@@ -43,8 +40,15 @@ fn is_sum(sig: &Signature, g: OpId) -> bool
 }
 
 // Whether node i lets class k have the identity e of f as one summand more.
-fn lets(sig: &Signature, table: &Table, state: &State, f: OpId, e: OpId, k: usize, i: usize) -> bool
-{
+fn lets(
+    sig: &Signature,
+    table: &Table,
+    state: &State,
+    f: OpId,
+    e: OpId,
+    k: usize,
+    i: usize,
+) -> bool {
     match table.node(i) {
         Node::Var(x) => {
             if state.class_of(i) != k {
@@ -62,8 +66,7 @@ fn lets(sig: &Signature, table: &Table, state: &State, f: OpId, e: OpId, k: usiz
 }
 
 // Whether all nodes do.
-fn all_let(sig: &Signature, table: &Table, state: &State, f: OpId, e: OpId, k: usize) -> bool
-{
+fn all_let(sig: &Signature, table: &Table, state: &State, f: OpId, e: OpId, k: usize) -> bool {
     for i in 0..table.nodes().len() {
         if !lets(sig, table, state, f, e, k, i) {
             return false;
@@ -73,8 +76,15 @@ fn all_let(sig: &Signature, table: &Table, state: &State, f: OpId, e: OpId, k: u
 }
 
 // Whether class k may.
-fn takes_identity(sig: &Signature, table: &Table, state: &State, reading: &Reading, f: OpId, e: OpId, k: usize) -> bool
-{
+fn takes_identity(
+    sig: &Signature,
+    table: &Table,
+    state: &State,
+    reading: &Reading,
+    f: OpId,
+    e: OpId,
+    k: usize,
+) -> bool {
     if reading.heads.as_slice()[k].is_some() {
         return false;
     }
@@ -93,8 +103,7 @@ pub(crate) fn other_columns(
     reading: &Reading,
     sums: &Sums,
     e: OpId,
-) -> Result<Vec<usize>, NoMemory>
-{
+) -> Result<Vec<usize>, NoMemory> {
     let mut list = Vec::new(alloc);
     if is_neutral(sig, sums.operator) {
         return Ok(list);

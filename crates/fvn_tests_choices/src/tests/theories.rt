@@ -50,22 +50,34 @@ fn worked_choices_with_constants(rt: HostRuntime) -> Result<(), Fail> {
     assert_worked(&rt, rt.alloc(), &[1, 3], &[14, 6])
 }
 
+/// The full choices with these other columns.
 fn assert_full(
     rt: &impl Abort,
     alloc: Global,
     constants: &[usize],
-    want: u128,
+    others: &[usize],
+    want: &[u128],
 ) -> Result<(), Fail> {
     let mut choices = worked(rt, alloc, constants)?;
-    choices.list_full();
-    assert_given(rt, &mut choices, &[want]);
+    choices.list_full(Seq::from_vec(Vec::from_slice(alloc, others)?));
+    assert_given(rt, &mut choices, want);
     Ok(())
 }
 
 #[test]
 fn full_choices_take_every_solution_without_a_constant(rt: HostRuntime) -> Result<(), Fail> {
-    assert_full(&rt, rt.alloc(), &[], 15)?;
-    assert_full(&rt, rt.alloc(), &[1, 3], 14)
+    assert_full(&rt, rt.alloc(), &[], &[], &[15])?;
+    assert_full(&rt, rt.alloc(), &[1, 3], &[], &[14])
+}
+
+// The four solutions take a left and a right column each: 1 and 3, 1 and 2, 0 and 3, 0 and 2. Without column 0
+// there are the first two, without 0 and 3 the second alone; there is no column 7. The last has no constant of 1
+// and 3, but column 2.
+#[test]
+fn full_choices_may_leave_out_what_has_another_column(rt: HostRuntime) -> Result<(), Fail> {
+    assert_full(&rt, rt.alloc(), &[], &[0], &[15, 11, 7])?;
+    assert_full(&rt, rt.alloc(), &[], &[0, 3, 7], &[15, 14, 11, 7, 6])?;
+    assert_full(&rt, rt.alloc(), &[1, 3], &[2], &[14, 6])
 }
 
 /// The choices that have at most 1 in the first columns, and at least 1 in the second.
@@ -126,7 +138,7 @@ fn solutions_with_two_constants_are_passed_at_once(rt: HostRuntime) -> Result<()
     let with = 0x3ffc_0080_1002_0040_0801_0020_0400;
     let without = 0x1ffc_0080_1002_0040_0801_0020_0400;
     assert_given(&rt, &mut choices, &[with, without]);
-    choices.list_full();
+    choices.list_full(Seq::new(rt.alloc()));
     assert_given(&rt, &mut choices, &[with]);
     Ok(())
 }

@@ -13,13 +13,13 @@ returns-then-not-is_open-clause-dead c =
     let sums = c.fill.new.self in
     let zeros : (j : ℕ) → slice_index sums j ≡ 0 = λ j. ap (λ l. slice_index l j) (c.fill.ensures.after (λ y h. h)) ∙ get_or-zeros _ j in
     let walked = IsWalked-start c.args.constants.now basis c.args.number sums c.requires.bounded.few zeros in
-    dead-from_closed c.args.full c.args.constants.now c.args.may_be_zero.now c.args.bounds.now basis c.args.number (length basis) sums [] walked
+    dead-from_closed c.args.full.now c.args.constants.now c.args.may_be_zero.now c.args.bounds.now basis c.args.number (length basis) sums [] walked
     (λ all_open. iff_false c.is_open.ensures c.if-not-is_open.true
     (subst (λ l. IsOpen [] c.args.constants.now c.args.may_be_zero.now c.args.bounds.now l sums) (take_all (length basis) basis (omega arith)) all_open))
 
 pub returns-then-touches_two-clause-dead : goal.returns-then-touches_two-clause-dead
 returns-then-touches_two-clause-dead c =
-    dead-from_touched c.args.full c.args.constants.now c.args.may_be_zero.now c.args.bounds.now c.args.basis.now c.args.number (c.loop-place.place - 1) c.as_slice-parts.result.now c.index-basis-place.result
+    dead-from_touched c.args.full.now c.args.constants.now c.args.may_be_zero.now c.args.bounds.now c.args.basis.now c.args.number (c.loop-place.place - 1) c.as_slice-parts.result.now c.index-basis-place.result
     (omega (arith, c.loop-place.invariant.walked.inside)) c.if-number-place-eq1.true c.as_slice-parts.ensures (c.touches_two.ensures.0 c.if-touches_two.true)
 
 -- one place further down, with the solution there taken or skipped
@@ -39,15 +39,15 @@ walked_on c =
           rw w.sums-is (IsWalked-skipped constants basis c.args.number c.loop-place.place p c.loop-place.sums e w.if-number-place-eq1.false before)
     ]
 
-full_on : (c : After-is_open-in-loop-place) → IsFullFrom c.args.full c.args.constants.now c.args.basis.now c.args.number (c.loop-place.place - 1)
+full_on : (c : After-is_open-in-loop-place) → IsFullFrom c.args.full.now c.args.constants.now c.args.basis.now c.args.number (c.loop-place.place - 1)
 full_on c =
     let p = c.loop-place.place - 1 in
     let e : p + 1 ≡ c.loop-place.place = omega arith in
     elim c.if-number-place-eq1.branch [
       | then-number-place-eq1+else-touches_two w ↦
-          full-from_taken c.args.full c.args.constants.now c.args.basis.now c.args.number c.loop-place.place p e w.if-number-place-eq1.true c.loop-place.invariant.full_from
+          full-from_taken c.args.full.now c.args.constants.now c.args.basis.now c.args.number c.loop-place.place p e w.if-number-place-eq1.true c.loop-place.invariant.full_from
       | else-number-place-eq1+else-is_asked w ↦
-          full-from_skipped c.args.full c.args.constants.now c.args.basis.now c.args.number c.loop-place.place p c.as_slice-parts.result.now c.index-basis-place.result e
+          full-from_skipped c.args.full.now c.args.constants.now c.args.basis.now c.args.number c.loop-place.place p c.as_slice-parts.result.now c.index-basis-place.result e
           (omega (arith, c.loop-place.invariant.walked.inside)) c.as_slice-parts.ensures (iff_false w.is_asked.ensures w.if-is_asked.false) c.loop-place.invariant.full_from
     ]
 
@@ -62,12 +62,12 @@ sums_on c j =
 pub returns-then-is_asked-clause-dead : goal.returns-then-is_asked-clause-dead
 returns-then-is_asked-clause-dead c =
     let asked = c.is_asked.ensures.0 c.if-is_asked.true in
-    dead-from_missing c.args.full c.args.constants.now c.args.may_be_zero.now c.args.bounds.now c.args.basis.now c.args.number (c.loop-place.place - 1) c.as_slice-parts.result.now c.index-basis-place.result
-    asked.0 (omega (arith, c.loop-place.invariant.walked.inside)) c.if-number-place-eq1.false c.as_slice-parts.ensures asked.1
+    dead-from_missing c.args.full.now c.args.constants.now c.args.may_be_zero.now c.args.bounds.now c.args.basis.now c.args.number (c.loop-place.place - 1) c.as_slice-parts.result.now c.index-basis-place.result
+    (omega (arith, c.loop-place.invariant.walked.inside)) c.if-number-place-eq1.false c.as_slice-parts.ensures asked
 
 pub returns-then-not-is_open-2-clause-dead : goal.returns-then-not-is_open-2-clause-dead
 returns-then-not-is_open-2-clause-dead c =
-    dead-from_closed c.args.full c.args.constants.now c.args.may_be_zero.now c.args.bounds.now c.args.basis.now c.args.number (c.loop-place.place - 1) c.if-number-place-eq1.sums c.as_slice-parts.result.now
+    dead-from_closed c.args.full.now c.args.constants.now c.args.may_be_zero.now c.args.bounds.now c.args.basis.now c.args.number (c.loop-place.place - 1) c.if-number-place-eq1.sums c.as_slice-parts.result.now
     (walked_on (goal.at.returns-then-not-is_open-2-clause-dead c).After-is_open-in-loop-place) (iff_false c.is_open-in-loop-place.ensures c.if-not-is_open-2.true)
 
 pub loop-place-preserved : goal.loop-place-preserved
@@ -84,8 +84,8 @@ returns-clause-listed c =
     let e : c.loop-place.place ≡ 0 = omega arith in
     let constants = c.args.constants.now in
     let basis = c.args.basis.now in
-    listed-from_open c.args.full constants c.args.may_be_zero.now c.args.bounds.now basis c.args.number c.loop-place.sums
+    listed-from_open c.args.full.now constants c.args.may_be_zero.now c.args.bounds.now basis c.args.number c.loop-place.sums
     (subst (λ p. IsWalked constants basis c.args.number p c.loop-place.sums) e c.loop-place.invariant.walked)
     (subst (λ p. IsOpen [] constants c.args.may_be_zero.now c.args.bounds.now (take p basis) c.loop-place.sums) e c.loop-place.invariant.all_open)
-    (subst (λ p. IsFullFrom c.args.full constants basis c.args.number p) e c.loop-place.invariant.full_from)
+    (subst (λ p. IsFullFrom c.args.full.now constants basis c.args.number p) e c.loop-place.invariant.full_from)
     c.requires.within

@@ -1,5 +1,5 @@
 -- The choices go over a copy of the solutions.
-use Rattle.std.proofs.Common.{◌≡◌, ◌^◌, length, false, sym, ap, ◌∙◌, subst}
+use Rattle.std.proofs.Common.{◌≡◌, ◌^◌, length, None, sym, ap, ◌∙◌, subst}
 use Rattle.std.proofs.lemmas.Result.{IfOk-weaker}
 use Rattle.fvn_lindio.specs.Systems.{rows_of}
 use Rattle.fvn_acunify.specs.Cursor.{Cursor, unbounded}
@@ -19,5 +19,5 @@ over-requires c =
 
 pub returns-clause-basis : goal.returns-clause-basis
 returns-clause-basis c =
-    let P : Cursor → Type 0 = λ k. k ≡ record { constants = c.args.theory.now.constants; may_be_zero = c.args.theory.now.may_be_zero; bounds = unbounded; basis = c.from_vec.result; full = false; below = 2 ^ length c.from_vec.result } in
+    let P : Cursor → Type 0 = λ k. k ≡ record { constants = c.args.theory.now.constants; may_be_zero = c.args.theory.now.may_be_zero; bounds = unbounded; basis = c.from_vec.result; full = None; below = 2 ^ length c.from_vec.result } in
     IfOk-weaker c.over.result P (λ k. k.basis ≡ c.args.solutions.now) (λ k e. ap (λ (k : Cursor). k.basis) e ∙ c.from_vec.ensures ∙ c.in_ok-own.ensures) c.over.ensures.ok

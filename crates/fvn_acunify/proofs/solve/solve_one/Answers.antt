@@ -1,5 +1,5 @@
 -- The solutions keep to what the choices ask, and the refusals are those of the system.
-use Rattle.std.proofs.Common.{◌≡◌, ◌↔◌, ℕ, ◌^◌, List, length, false, Ok, Err, Contains, refl, ap, sym, ◌∙◌, subst, arith}
+use Rattle.std.proofs.Common.{◌≡◌, ◌↔◌, ℕ, ◌^◌, List, length, None, Ok, Err, Contains, refl, ap, sym, ◌∙◌, subst, arith}
 use Rattle.std.proofs.lemmas.Result.{IfOk-weaker, IfErr-at_err, err_from_is_err_and}
 use Rattle.fvn_lindio.specs.Systems.{IsMinimal, rows_of, vectors_of}
 use Rattle.fvn_acunify.specs.Cursor.{Cursor, unbounded}
@@ -29,7 +29,7 @@ over-requires c =
 pub returns-clause-exact : goal.returns-clause-exact
 returns-clause-exact c =
     let system = c.args.theory.now.system in
-    let P : Cursor → Type 0 = λ k. k ≡ record { constants = c.args.theory.now.constants; may_be_zero = c.args.theory.now.may_be_zero; bounds = unbounded; basis = c.in_ok-solutions.solutions; full = false; below = 2 ^ length c.in_ok-solutions.solutions } in
+    let P : Cursor → Type 0 = λ k. k ≡ record { constants = c.args.theory.now.constants; may_be_zero = c.args.theory.now.may_be_zero; bounds = unbounded; basis = c.in_ok-solutions.solutions; full = None; below = 2 ^ length c.in_ok-solutions.solutions } in
     let Q : Cursor → Type 0 = λ k. (v : List ℕ) → Contains (vectors_of k.basis) v ↔ IsMinimal system.columns (rows_of system) v in
     IfOk-weaker c.over.result P Q (λ k e. subst Q (sym e) c.in_ok-solutions.ensures.exact) c.over.ensures.ok
 
