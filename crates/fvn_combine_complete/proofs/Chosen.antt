@@ -37,10 +37,12 @@ use Rattle.fvn_combine_complete.proofs.Aliases.{laid_out_are}
 use Rattle.fvn_combine_complete.proofs.Asked.{uses_told}
 use Rattle.fvn_combine_complete.proofs.Meeting.{component_at, not_unused}
 use Rattle.fvn_combine_complete.specs.Neutral.{IsNeutral}
-use Rattle.fvn_combine_complete.proofs.Marked.{number_by, marked, number_small, chosen_marked, AreMarks, marks_long, as_many_marked, laid_for_is, MarkedAt, marked_at, passing_marked, sums_grow, sums_stay, empty_passes}
+use Rattle.fvn_combine_complete.specs.Vanishing.{MayVanish}
+use Rattle.fvn_combine_complete.proofs.Marked.{number_by, marked, number_small, chosen_marked, AreMarks, marks_long, as_many_marked, laid_for_is, MarkedAt, marked_at, passing_marked, sums_grow, sums_stay, passes_without}
 use Rattle.fvn_combine_complete.proofs.Taken.{contains_counted, laid_counts, sum_by_alike}
 use Rattle.fvn_combine_complete.proofs.Touching.{touched_none, bare_is}
 use Rattle.fvn_combine_complete.proofs.TwoSummands.{shared_two}
+use Rattle.fvn_combine_complete.proofs.VanishingTold.{neutral_vanishes}
 use Rattle.fvn_combine_complete.proofs.Values.{bound_used, may_be, constant_not_noted, constants_differ, alike_live}
 
 -- some component of a vector that is not zero
@@ -62,7 +64,7 @@ counts_add g a b (v ∷ vs) h =
 
 module _ (d : Declarations) (t : NodeTable) (made : IsWellMade t) (has : HasSums d t) (s : State) {heads : List (Option OpId)} (leaf : IsLeaf d t heads s) (told : IsTold d t (class_of s)) (values : ℕ → FlatTerm) (go_with : GoWith d t s values) (obey_heads : ObeyHeads d t s heads values) (y : Systems) (systems : AreSystems d t (class_of s) y) (c : Choice) (obey : ObeyTags d t (class_of s) c.tag values) (follow : TagsFollow d t (class_of s) c.tag values heads)
     (f : OpId) (sum : IsSumOperator d t f) (constants : List ℕ) (may_be_zero : List Bool) (are_asked : AreAsked d t (class_of s) c.tag f (y.columns f) constants may_be_zero) (ch : IsChosen d f values (y.columns f) (y.system f) (y.basis f) constants may_be_zero) (also : List ℕ → Bool) (marks : List Bool) (are : AreMarks also marks ch.pieces (y.basis f)) (number : c.number f ≡ number_by marks)
-    (neutral : (v : List ℕ) → also v ≡ true → IsNeutral d f) (bare : (v : List ℕ) → also v ≡ true → touched constants v ≡ 0) (passes : IsNeutral d f → (v : List ℕ) → touched constants v ≡ 0 → also v ≡ true) (law : MadeUpByTaken) where
+    (vanishes : (v : List ℕ) → also v ≡ true → MayVanish d t (class_of s) f (y.columns f) v) (bare : (v : List ℕ) → also v ≡ true → touched constants v ≡ 0) (passes : (v : List ℕ) → MayVanish d t (class_of s) f (y.columns f) v → touched constants v ≡ 0 → also v ≡ true) (law : MadeUpByTaken) where
   abbrev class : ℕ → ℕ
   class = class_of s
 
@@ -180,7 +182,10 @@ module _ (d : Declarations) (t : NodeTable) (made : IsWellMade t) (has : HasSums
   pub made_of : AreMadeOf d t class y c values f (marked marks ch.pieces)
   made_of = record {
     as_many = as_many;
-    some = λ z m e. let r = empty_passes also marks ch.pieces (y.basis f) are m.0 m.1 (get_or_default (marked marks ch.pieces) m.0 [] z m.1 ∙ m.2 ∙ e) in neutral r.0 r.1;
+    some = λ i l e.
+        let r = from i l in
+        let v = get_or (y.basis f) r.place [] in
+        subst (MayVanish d t class f (y.columns f)) (sym (solution_from i l)) (vanishes v (passes_without also ch.pieces (y.basis f) (marked marks (y.basis f)) (marked marks ch.pieces) i r e));
     summands = λ z q m n. (let l : m.0 < length (taken y c f) = (let e = as_many in let w = m.1 in omega (arith, e, w)) in
         summand m.0 l q (subst (λ z. Contains z q) (sym (get_or_default (marked marks ch.pieces) m.0 [] z m.1 ∙ m.2)) n));
     made = made_for;
@@ -212,7 +217,7 @@ module _ (d : Declarations) (t : NodeTable) (made : IsWellMade t) (has : HasSums
       let kept = carried t class f one.columns (y.columns f) one.system (y.system f) one.is is_node_system one.solution in
       let minimal = minimal_carried t class f one.columns (y.columns f) one.system (y.system f) one.is is_node_system one.solution one.minimal in
       let none = (bare_is d t class c.tag f (y.columns f) is_node_system.distinct (λ j m. (is_node_system.exact j).1 m.used.column) constants may_be_zero are_asked w).1 (λ j m. kept j ∙ one.free j m) in
-      let among : Contains (taken y c f) w = subst (λ vs. Contains vs w) (sym taken_is) (passing_marked also marks ch.pieces (y.basis f) are w ((exact w).1 minimal) (passes neutral w none)) in
+      let among : Contains (taken y c f) w = subst (λ vs. Contains vs w) (sym taken_is) (passing_marked also marks ch.pieces (y.basis f) are w ((exact w).1 minimal) (passes w (neutral_vanishes d t class f neutral (y.columns f) w) none)) in
       let much = one_of_sum (λ v. component (y.columns f) v z) (taken y c f) w among in
       let has = one.has in
       let same = kept z in

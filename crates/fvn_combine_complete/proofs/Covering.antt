@@ -1,10 +1,8 @@
 -- What the bindings of a plan unfold to covers the unifier.
-use Rattle.std.proofs.Common.{ℕ, sym, subst, Contains}
+use Rattle.std.proofs.Common.{ℕ, sym}
 use Rattle.std.proofs.lemmas.List.Elements.{All-weaker}
-use Rattle.fvn_terms.specs.declared.plain.Var.{Var}
 use Rattle.fvn_terms.specs.declared.declarations.Declarations.{Declarations}
 use Rattle.fvn_terms.specs.Substitution.{Substitution}
-use Rattle.fvn_terms.specs.Signature.{IsSort, IsTerm}
 use Rattle.fvn_terms.specs.Unifiers.{Problem}
 use Rattle.fvn_flat.specs.Bindings.{Bindings}
 use Rattle.fvn_flat.specs.Problems.{variables_of}
@@ -18,9 +16,8 @@ use Rattle.fvn_combine_choices.specs.Choosing.{Systems, Choice}
 use Rattle.fvn_combine_choices.specs.Covering.{CoversOnKinds}
 use Rattle.fvn_combine_choices.specs.Plans.{AreBindingsBy, unfolds_to}
 use Rattle.fvn_combine_complete.specs.Laws.{UnifiersGoWith, TablesHaveSums, ValuesObeyChoices, ObeyedChoicesFall, ObeyedChoicesCover, LeavesCover}
-use Rattle.fvn_combine_nodes.proofs.Subterms.{node_kinded}
+use Rattle.fvn_combine_complete.proofs.Keeping.{sorted, keeps_sorts}
 use Rattle.fvn_combine_complete.proofs.Later.{later, later_flat, value_of_variable}
-use Rattle.fvn_combine_nodes.proofs.NodesOf.{variable_node}
 use Rattle.fvn_combine_complete.proofs.Rightly.{binding_right}
 use Rattle.fvn_combine_complete.proofs.Setting.{Setting}
 use Rattle.fvn_combine_complete.proofs.Unfolding.{IsRight, unfolding_covers}
@@ -29,12 +26,7 @@ module _ {d : Declarations} {problem : Problem} {t : NodeTable} {s : State} {y :
   covered : (bindings : Bindings) → AreBindingsBy d problem (class_at t (class_of s)) plan bindings → CoversOnKinds d (variables_of problem) (unfolds_to d bindings) u
   covered bindings by = unfolding_covers d g.good (later g) (later_flat g) bindings
       (All-weaker (IsBinding d problem (class_at t (class_of s)) plan) (IsRight d g.good (later g) (later_flat g)) (binding_right g) bindings by.no_other)
-      (variables_of problem) u g.unifier.0 sorted (λ x among. sym (value_of_variable g x among))
-    where
-      sorted : (x : Var) → Contains (variables_of problem) x → IsSort d x.sort
-      sorted x among =
-          let n = variable_node g.made g.table x among in
-          (subst (IsTerm d) n.is (node_kinded d g.good.fits problem g.kinded t g.table n.number n.within)).1.0
+      (variables_of problem) u g.unifier.0 (sorted g) (λ x among. sym (value_of_variable g x among)) (keeps_sorts g bindings by.no_other)
 
 pub obeyed_choices_cover : UnifiersPartition → UnifiersGoWith → TablesHaveSums → ObeyedChoicesCover
 obeyed_choices_cover partitions go_with sums d good problem kinded t made table s heads leaf told y systems u unifier admits c obeying first next plan after plan_by bindings by =

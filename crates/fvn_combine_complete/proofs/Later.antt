@@ -33,11 +33,10 @@ use Rattle.fvn_combine_systems.specs.NodeSystems.{is_headed}
 use Rattle.fvn_combine_leaves.specs.Leaves.{IsSumOperator}
 use Rattle.fvn_combine_choices.specs.Choosing.{Systems, Choice}
 use Rattle.fvn_combine_choices.specs.Plans.{IsForSolution}
-use Rattle.fvn_combine_complete.specs.Neutral.{IsNeutral}
 use Rattle.fvn_combine_complete.proofs.Asked.{sum_told}
 use Rattle.fvn_combine_complete.proofs.Entries.{paired}
 use Rattle.fvn_combine_complete.proofs.Setting.{Setting, name_kinded, name_of_kind, names_apart, column_within}
-use Rattle.fvn_combine_complete.proofs.Standing.{part_among, entry_alone, entry_some, entry_pieces, entry_settled, entry_kinded, entry_variable, entries_apart}
+use Rattle.fvn_combine_complete.proofs.Standing.{part_among, entry_alone, entry_named, entry_pieces, entry_settled, entry_kinded, entry_variable, entries_apart}
 
 -- the operators that head nodes
 abbrev heads_of : List Node → List OpId
@@ -60,12 +59,12 @@ module _ {d : Declarations} {problem : Problem} {t : NodeTable} {s : State} {y :
   values = value_at d u t.nodes
 
   -- x names the class of a node
-  record IsNamed (x : Variable) : Type 0 where
-    k : ℕ
-    within : k < length t.nodes
-    is : plan.name k ≡ x
+  pub record IsNamed (x : Variable) : Type 0 where
+    pub k : ℕ
+    pub within : k < length t.nodes
+    pub is : plan.name k ≡ x
 
-  named_told : (x : Variable) → Decided (IsNamed x)
+  pub named_told : (x : Variable) → Decided (IsNamed x)
   named_told x = elim (cases_lt k (length t.nodes)) [
     | inl l ↦ elim (cases_Bool (same_var (plan.name k) x)) [
       | inl e ↦ inl (record { k = k; within = l; is = same_var_is (plan.name k) x e })
@@ -187,9 +186,6 @@ module _ {d : Declarations} {problem : Problem} {t : NodeTable} {s : State} {y :
           omega (arith, old, a, e))
       go (inr n) = standing n (some_standing x)
 
-  neutral_identity : (f : OpId) → IsNeutral d f → HasIdentity d f
-  neutral_identity f n = (n.unit, n.is_identity)
-
   -- the values are settled and keep kinds
   pub later_flat : IsFlatSubstitution d later
   unfolding later
@@ -198,7 +194,7 @@ module _ {d : Declarations} {problem : Problem} {t : NodeTable} {s : State} {y :
       settled_standing : (x : Variable) (o : Decided (Standing x)) → Settled d (by_standing x o)
       settled_standing x (inl h) =
           sum_settled d h.0 h.1.sum_operator.associative h.1.entry.1 (entry_pieces g h.0 h.1.sum_operator h.1.entry h.1.among) (entry_settled g h.0 h.1.sum_operator h.1.entry h.1.among)
-          (λ e. neutral_identity h.0 (entry_some g h.0 h.1.sum_operator h.1.entry h.1.among e))
+          (entry_named g h.0 h.1.sum_operator h.1.entry h.1.among)
       settled_standing x (inr n) = canon_settled d (u x)
 
       settled_name : (x : Variable) (o : Decided (IsNamed x)) → Settled d (by_name x o)
@@ -210,12 +206,12 @@ module _ {d : Declarations} {problem : Problem} {t : NodeTable} {s : State} {y :
           let new = new_standing h.0 x h.1 n in
           let is : kind d new.rank.result ≡ kind d x.sort = sym (ap (kind d) new.sort ∙ g.good.kinded.own new.rank.result) in
           subst (HasKind d (plain (sum d h.0 h.1.entry.1))) is
-          (of_pieces h.0 h.1.sum_operator new h.1.entry.1 (entry_some g h.0 h.1.sum_operator h.1.entry h.1.among) (entry_kinded g h.0 h.1.sum_operator h.1.entry h.1.among new.rank new.declared_so))
+          (of_pieces h.0 h.1.sum_operator new h.1.entry.1 (entry_named g h.0 h.1.sum_operator h.1.entry h.1.among) (entry_kinded g h.0 h.1.sum_operator h.1.entry h.1.among new.rank new.declared_so))
         where
-          of_pieces : (f : OpId) → IsSumOperator d t f → (new : IsForSolution d t first next f x) → (l : List FlatTerm) → (l ≡ [] → IsNeutral d f) → AllByRecursion (λ q. HasKind d (plain q) (kind d new.rank.result)) l → HasKind d (plain (sum d f l)) (kind d new.rank.result)
+          of_pieces : (f : OpId) → IsSumOperator d t f → (new : IsForSolution d t first next f x) → (l : List FlatTerm) → (l ≡ [] → HasIdentity d f) → AllByRecursion (λ q. HasKind d (plain q) (kind d new.rank.result)) l → HasKind d (plain (sum d f l)) (kind d new.rank.result)
           of_pieces f sum_operator new [] n h =
               let e = n refl in
-              subst (λ o. HasKind d (plain (empty_sum d f o)) (kind d new.rank.result)) (sym e.is_identity) (g.good.fits.identity f e.unit new.rank e.is_identity new.declared_so)
+              subst (λ o. HasKind d (plain (empty_sum d f o)) (kind d new.rank.result)) (sym e.1) (g.good.fits.identity f e.0 new.rank e.1 new.declared_so)
           of_pieces f sum_operator new (q ∷ qs) n h = sum_of_forms_of_kind d g.good.fits f sum_operator.associative (kind d new.rank.result) new.rank new.declared_so refl q qs h
       kinded_standing x i n (inr m) = canon_of_kind d g.good.fits (u x) (kind d x.sort) (g.unifier.0 x i)
 

@@ -14,6 +14,7 @@ mod Taken
 mod Marked
 pub mod Touching
 mod NeutralTold
+mod VanishingTold
 mod Chosen
 mod Obeying
 mod Falling
@@ -23,5 +24,7 @@ mod Entries
 mod Setting
 mod Standing
 mod Later
+mod ArgumentSorts
 mod Rightly
+mod Keeping
 mod Covering

@@ -215,8 +215,5 @@ module _ (also : List ℕ → Bool) where
   sums_stay j none (false ∷ marks) ((x ∷ xs) ∷ zs) (v ∷ vs) h = absurd (let e : false ≡ true = h.0 in cc)
 
   -- what is marked without pieces passes the test
-  pub empty_passes : (marks : List Bool) (zs : List (List FlatTerm)) (vs : List (List ℕ)) → AreMarks also marks zs vs → (i : ℕ) → i < length (marked marks zs) → get_or (marked marks zs) i [] ≡ [] → (v : List ℕ) × (also v ≡ true)
-  empty_passes marks zs vs h i l e =
-      let n = as_many_marked marks zs vs h in
-      let r = marked_at marks zs vs h i (omega (arith, l, n)) in
-      (get_or vs r.place [], sym (ap (λ z. has_some z || also (get_or vs r.place [])) (sym r.piece ∙ e)) ∙ r.why)
+  pub passes_without : (zs : List (List FlatTerm)) (vs solutions : List (List ℕ)) (pieces : List (List FlatTerm)) (i : ℕ) → (r : MarkedAt zs vs solutions pieces i) → get_or pieces i [] ≡ [] → also (get_or vs r.place []) ≡ true
+  passes_without zs vs solutions pieces i r e = sym (ap (λ z. has_some z || also (get_or vs r.place [])) (sym r.piece ∙ e)) ∙ r.why

@@ -3,13 +3,13 @@ use Rattle.std.proofs.Common.{◌≡◌, ℕ, zero, suc, ◌<◌, true, List, []
 use Rattle.std.proofs.lemmas.Bool.{cases_lt}
 use Rattle.std.proofs.lemmas.List.{get_or_past}
 use Rattle.fvn_base.specs.Decided.{Decided}
-use Rattle.fvn_base.proofs.Decided.{some_or_none, decided_by, both_or}
+use Rattle.fvn_base.proofs.Decided.{some_or_none, decided_by, both_or, unrefuted}
 use Rattle.fvn_base.proofs.Membership.{contains_here, contains_later}
 use Rattle.fvn_terms.specs.declared.plain.OpId.{OpId}
 use Rattle.fvn_terms.specs.declared.plain.SortId.{SortId}
 use Rattle.fvn_terms.specs.declared.declarations.Rank.{Rank}
 use Rattle.fvn_terms.specs.declared.declarations.Declarations.{Declarations}
-use Rattle.fvn_terms.specs.Signature.{kind, declared, axioms, AtOrBelow, IsSort}
+use Rattle.fvn_terms.specs.Signature.{kind, declared, axioms, IsSort}
 use Rattle.fvn_terms.specs.Equality.{identity}
 use Rattle.fvn_forms.specs.Good.{IsGood, IsOfKind}
 use Rattle.fvn_forms.specs.Ranks.{result}
@@ -50,6 +50,11 @@ module _ (d : Declarations) (good : IsGood d) where
         omega (arith, past, l))
   ]
 
+  pub absorbs_told : (f e : OpId) (a : SortId) → Decided (Absorbs d f e a)
+  absorbs_told f e a =
+      let q = result d f (a ∷ result d e [] ∷ []) in
+      decided_by (at_or_below d q a) (at_or_below-true d q a) (λ h. at_or_below-complete d h)
+
   abbrev Fails : OpId → OpId → SortId → Type 0
   Fails f e a = IsOfKind d f a × (Absorbs d f e a → ⊥)
 
@@ -59,11 +64,6 @@ module _ (d : Declarations) (good : IsGood d) where
       absurdly : {P : Type 0} → Decided P → Decided (P → ⊥)
       absurdly (inl p) = inr (λ n. n p)
       absurdly (inr n) = inl n
-
-      absorbs_told : (f e : OpId) (a : SortId) → Decided (Absorbs d f e a)
-      absorbs_told f e a =
-          let q = result d f (a ∷ result d e [] ∷ []) in
-          decided_by (at_or_below d q a) (at_or_below-true d q a) (λ h. at_or_below-complete d h)
 
   pub neutral_told : (f : OpId) → Decided (IsNeutral d f)
   neutral_told f = go (identity (axioms d f)) refl
@@ -78,12 +78,6 @@ module _ (d : Declarations) (good : IsGood d) where
         | inr none ↦ inl (record {
           unit = e;
           is_identity = is;
-          absorbs = λ a h. let q = result d f (a ∷ result d e [] ∷ []) in elim (below_told q a) [
-            | inl b ↦ b
-            | inr n ↦ absurd (none a (below_listed (length d.kinds) a (of_kind_listed f a h)) (h, n))
-          ];
+          absorbs = λ a h. unrefuted (absorbs_told f e a) (λ n. none a (below_listed (length d.kinds) a (of_kind_listed f a h)) (h, n));
         })
       ]
-        where
-          below_told : (q a : SortId) → Decided (AtOrBelow d q a)
-          below_told q a = decided_by (at_or_below d q a) (at_or_below-true d q a) (λ h. at_or_below-complete d h)

@@ -18,12 +18,12 @@ use Rattle.fvn_combine_complete.specs.Laws.{ValuesChoose, NoAliases, IsChosen}
 use Rattle.fvn_combine_choices.specs.Tables.{HasSums}
 use Rattle.fvn_combine_complete.specs.Obeying.{IsTold, GoWith, ObeyHeads, TagsFollow}
 use Rattle.fvn_combine_complete.specs.Full.{HasNoConstant, IsFull}
-use Rattle.fvn_combine_complete.specs.Neutral.{IsNeutral}
+use Rattle.fvn_combine_complete.specs.Vanishing.{MayVanish}
 use Rattle.fvn_combine_complete.specs.Obeyed.{AreMadeOf, AreObeying}
 use Rattle.fvn_combine_complete.proofs.Asked.{sum_told, Asked, asked}
 use Rattle.fvn_combine_complete.proofs.Chosen.{made_of, acceptable}
 use Rattle.fvn_combine_complete.proofs.Marked.{number_by, marked, AreMarks, marks_of, are_marks, marks_long, also_marked, bit_marked}
-use Rattle.fvn_combine_complete.proofs.NeutralTold.{neutral_told}
+use Rattle.fvn_combine_complete.proofs.VanishingTold.{vanishing_told}
 use Rattle.fvn_combine_complete.proofs.Touching.{bare_is}
 use Rattle.fvn_combine_complete.proofs.Tagging.{RightTags, right_tags}
 
@@ -46,34 +46,37 @@ module _ (choose : ValuesChoose) (aliases : NoAliases) (law : MadeUpByTaken) (d 
       choose d t made has s heads leaf told values go_with obey_heads tag tags.obey tags.follow f sum (y.columns f) (y.system f) (systems.is_system f sum) (y.basis f) (systems.exact f sum)
       (asked_for f sum).constants (asked_for f sum).may_be_zero (asked_for f sum).are_asked
 
-  -- where the operator is neutral, solutions without a constant are taken with or without pieces
-  abbrev also_in : (f : OpId) → IsSumOperator d t f → Decided (IsNeutral d f) → List ℕ → Bool
-  also_in f sum (inl n) v = nat_eq (touched (asked_for f sum).constants v) 0
-  also_in f sum (inr n) v = false
+  -- solutions without a constant that may stand for the identity are taken with or without pieces
+  abbrev Vanishes : OpId → List ℕ → Type 0
+  Vanishes f v = MayVanish d t class f (y.columns f) v
+
+  abbrev also_in : (f : OpId) → IsSumOperator d t f → (v : List ℕ) → Decided (Vanishes f v) → Bool
+  also_in f sum v (inl m) = nat_eq (touched (asked_for f sum).constants v) 0
+  also_in f sum v (inr n) = false
 
   abbrev also : (f : OpId) → IsSumOperator d t f → List ℕ → Bool
-  also f sum = also_in f sum (neutral_told d good f)
+  also f sum v = also_in f sum v (vanishing_told d good t class told f (y.columns f) v)
 
-  also_neutral : (f : OpId) (sum : IsSumOperator d t f) (v : List ℕ) → also f sum v ≡ true → IsNeutral d f
-  also_neutral f sum v e = go (neutral_told d good f) e
+  also_vanishes : (f : OpId) (sum : IsSumOperator d t f) (v : List ℕ) → also f sum v ≡ true → Vanishes f v
+  also_vanishes f sum v e = go (vanishing_told d good t class told f (y.columns f) v) e
     where
-      go : (o : Decided (IsNeutral d f)) → also_in f sum o v ≡ true → IsNeutral d f
-      go (inl n) e = n
+      go : (o : Decided (Vanishes f v)) → also_in f sum v o ≡ true → Vanishes f v
+      go (inl m) e = m
       go (inr n) e = absurd (true≢false (sym e))
 
   also_bare : (f : OpId) (sum : IsSumOperator d t f) (v : List ℕ) → also f sum v ≡ true → touched (asked_for f sum).constants v ≡ 0
-  also_bare f sum v e = go (neutral_told d good f) e
+  also_bare f sum v e = go (vanishing_told d good t class told f (y.columns f) v) e
     where
-      go : (o : Decided (IsNeutral d f)) → also_in f sum o v ≡ true → touched (asked_for f sum).constants v ≡ 0
-      go (inl n) e = eqb-true (touched (asked_for f sum).constants v) 0 e
+      go : (o : Decided (Vanishes f v)) → also_in f sum v o ≡ true → touched (asked_for f sum).constants v ≡ 0
+      go (inl m) e = eqb-true (touched (asked_for f sum).constants v) 0 e
       go (inr n) e = absurd (true≢false (sym e))
 
-  also_passes : (f : OpId) (sum : IsSumOperator d t f) → IsNeutral d f → (v : List ℕ) → touched (asked_for f sum).constants v ≡ 0 → also f sum v ≡ true
-  also_passes f sum n v e = go (neutral_told d good f)
+  also_passes : (f : OpId) (sum : IsSumOperator d t f) (v : List ℕ) → Vanishes f v → touched (asked_for f sum).constants v ≡ 0 → also f sum v ≡ true
+  also_passes f sum v m e = go (vanishing_told d good t class told f (y.columns f) v)
     where
-      go : (o : Decided (IsNeutral d f)) → also_in f sum o v ≡ true
-      go (inl m) = eq-eqb (touched (asked_for f sum).constants v) 0 e
-      go (inr m) = absurd (m n)
+      go : (o : Decided (Vanishes f v)) → also_in f sum v o ≡ true
+      go (inl o) = eq-eqb (touched (asked_for f sum).constants v) 0 e
+      go (inr n) = absurd (n m)
 
   marks_for : (f : OpId) → IsSumOperator d t f → List Bool
   marks_for f sum = marks_of (also f sum) (chosen_for f sum).pieces (y.basis f)
@@ -95,18 +98,19 @@ module _ (choose : ValuesChoose) (aliases : NoAliases) (law : MadeUpByTaken) (d 
 
   accepted : (f : OpId) → IsSumOperator d t f → (o : Decided (IsSumOperator d t f)) → sum_told d t f ≡ o → IsAcceptable d t class y choice f
   accepted f sum (inl h) e =
-      acceptable d t made has s leaf told values go_with obey_heads y systems choice tags.obey tags.follow f h (asked_for f h).constants (asked_for f h).may_be_zero (asked_for f h).are_asked (chosen_for f h) (also f h) (marks_for f h) (marks_are f h) (ap (number_in f) e) (also_neutral f h) (also_bare f h) (also_passes f h) law aliases
+      acceptable d t made has s leaf told values go_with obey_heads y systems choice tags.obey tags.follow f h (asked_for f h).constants (asked_for f h).may_be_zero (asked_for f h).are_asked (chosen_for f h) (also f h) (marks_for f h) (marks_are f h) (ap (number_in f) e) (also_vanishes f h) (also_bare f h) (also_passes f h) law aliases
   accepted f sum (inr n) e = absurd (n sum)
 
   made_up : (f : OpId) → IsSumOperator d t f → (o : Decided (IsSumOperator d t f)) → sum_told d t f ≡ o → AreMadeOf d t class y choice values f (pieces_in f (sum_told d t f))
   made_up f sum (inl h) e =
       subst (AreMadeOf d t class y choice values f) (sym (ap (pieces_in f) e))
-      (made_of d t made has s leaf told values go_with obey_heads y systems choice tags.obey tags.follow f h (asked_for f h).constants (asked_for f h).may_be_zero (asked_for f h).are_asked (chosen_for f h) (also f h) (marks_for f h) (marks_are f h) (ap (number_in f) e) (also_neutral f h) (also_bare f h) (also_passes f h) law)
+      (made_of d t made has s leaf told values go_with obey_heads y systems choice tags.obey tags.follow f h (asked_for f h).constants (asked_for f h).may_be_zero (asked_for f h).are_asked (chosen_for f h) (also f h) (marks_for f h) (marks_are f h) (ap (number_in f) e) (also_vanishes f h) (also_bare f h) (also_passes f h) law)
   made_up f sum (inr n) e = absurd (n sum)
 
-  -- every solution without a constant is taken
-  filled : (f : OpId) → IsSumOperator d t f → IsNeutral d f → (o : Decided (IsSumOperator d t f)) → sum_told d t f ≡ o → (i : ℕ) → i < length (y.basis f) → HasNoConstant d t class y choice f (get_or (y.basis f) i []) → choice.number f / 2 ^ i % 2 ≡ 1
-  filled f sum n (inl h) e i l bare =
+  -- every solution without a constant that may stand for the identity is taken
+  filled : (f : OpId) → IsSumOperator d t f → (o : Decided (IsSumOperator d t f)) → sum_told d t f ≡ o → (i : ℕ) → i < length (y.basis f)
+      → HasNoConstant d t class y choice f (get_or (y.basis f) i []) → Vanishes f (get_or (y.basis f) i []) → choice.number f / 2 ^ i % 2 ≡ 1
+  filled f sum (inl h) e i l bare vanishes =
       let asked = (asked_for f h).are_asked in
       let v = get_or (y.basis f) i [] in
       let system = systems.is_system f h in
@@ -114,14 +118,14 @@ module _ (choose : ValuesChoose) (aliases : NoAliases) (law : MadeUpByTaken) (d 
       let are = marks_are f h in
       let long = marks_long (also f h) (marks_for f h) (chosen_for f h).pieces (y.basis f) are in
       ap (λ m. m / 2 ^ i % 2) (ap (number_in f) e)
-      ∙ bit_marked (marks_for f h) i (omega (arith, l, long)) (also_marked (also f h) (marks_for f h) (chosen_for f h).pieces (y.basis f) are i l (also_passes f h n v none))
-  filled f sum n (inr m) e i l bare = absurd (m sum)
+      ∙ bit_marked (marks_for f h) i (omega (arith, l, long)) (also_marked (also f h) (marks_for f h) (chosen_for f h).pieces (y.basis f) are i l (also_passes f h v vanishes none))
+  filled f sum (inr m) e i l bare vanishes = absurd (m sum)
 
   pub obeyed_choice : (c : Choice) × IsPossible d t class y c × IsFull d t class y c × AreObeying d t class y c values × TagsFollow d t class c.tag values heads
   obeyed_choice = (
     choice,
     record { tags = tags.right; acceptable = λ f sum. accepted f sum (sum_told d t f) refl },
-    λ f sum n. filled f sum n (sum_told d t f) refl,
+    λ f sum. filled f sum (sum_told d t f) refl,
     record { tags = tags.obey; pieces = λ f. pieces_in f (sum_told d t f); made_of = λ f sum. made_up f sum (sum_told d t f) refl },
     tags.follow,
   )

@@ -17,6 +17,7 @@ use Rattle.fvn_terms.specs.Unifiers.{Problem}
 use Rattle.fvn_forms.specs.Flat.{FlatTerm, plain}
 use Rattle.fvn_forms.specs.Canon.{parts}
 use Rattle.fvn_forms.specs.Settled.{Settled, IsPiece}
+use Rattle.fvn_forms.proofs.Build.{HasIdentity}
 use Rattle.fvn_forms.proofs.KindsOfSums.{parts_of_kind}
 use Rattle.fvn_forms.proofs.Sums.{parts_are_pieces, parts_are_settled}
 use Rattle.fvn_flat.specs.SolvedLists.{Plan, Part, component}
@@ -28,7 +29,7 @@ use Rattle.fvn_combine_leaves.specs.Leaves.{IsSumOperator}
 use Rattle.fvn_combine_choices.specs.Binding.{IsConstant}
 use Rattle.fvn_combine_choices.specs.Choosing.{Systems, Choice, taken}
 use Rattle.fvn_combine_choices.specs.Plans.{IsForSolution, StandsFor}
-use Rattle.fvn_combine_complete.specs.Neutral.{IsNeutral}
+use Rattle.fvn_combine_complete.specs.Vanishing.{MayVanish}
 use Rattle.fvn_combine_complete.specs.Obeyed.{IsSummand, AreMadeOf}
 use Rattle.fvn_combine_complete.proofs.Asked.{constant_told, user_told}
 use Rattle.fvn_combine_complete.proofs.Entries.{paired, PairedAt, paired_at}
@@ -85,8 +86,12 @@ module _ {d : Declarations} {problem : Problem} {t : NodeTable} {s : State} {y :
     pub entry_alone : (k : ℕ) → IsConstant d t class c.tag f k → 0 < component (y.columns f) e.0.solution k → e.1 ≡ values k ∷ []
     entry_alone k h p = sym at.piece ∙ made.alone i k within_taken h (let m = ap (λ v. component (y.columns f) v k) solution_is in omega (arith, m, p))
 
-    pub entry_some : e.1 ≡ [] → IsNeutral d f
-    entry_some = made.some e.1 piece_among
+    -- a part without pieces has a solution that may stand for the identity
+    pub entry_vanishes : e.1 ≡ [] → MayVanish d t class f (y.columns f) e.0.solution
+    entry_vanishes z = subst (MayVanish d t class f (y.columns f)) solution_is (made.some i within_taken (at.piece ∙ z))
+
+    pub entry_named : e.1 ≡ [] → HasIdentity d f
+    entry_named z = let m = entry_vanishes z in (m.unit, m.is_identity)
 
     summand : (q : FlatTerm) → Contains e.1 q → IsSummand d t class values f q
     summand q m = made.summands e.1 q piece_among m

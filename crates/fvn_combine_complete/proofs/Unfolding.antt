@@ -8,7 +8,7 @@ use Rattle.fvn_terms.specs.declared.plain.SortId.{SortId}
 use Rattle.fvn_terms.specs.declared.declarations.Declarations.{Declarations}
 use Rattle.fvn_terms.specs.Term.{var}
 use Rattle.fvn_terms.specs.Substitution.{Substitution, apply, same_var}
-use Rattle.fvn_terms.specs.Signature.{kind, IsSort, HasKind, AtOrBelow, same, KeepsKinds}
+use Rattle.fvn_terms.specs.Signature.{kind, IsSort, HasKind, AtOrBelow, KeepsKinds}
 use Rattle.fvn_terms.specs.Equality.{BEqual}
 use Rattle.fvn_terms.proofs.Equal.{HasKind-apply}
 use Rattle.fvn_forms.specs.Flat.{FlatTerm, fvar, plain}
@@ -16,7 +16,7 @@ use Rattle.fvn_forms.specs.Canon.{eval, canon, inst}
 use Rattle.fvn_forms.specs.Settled.{Settled}
 use Rattle.fvn_forms.specs.Good.{IsGood}
 use Rattle.fvn_forms.specs.LeastSort.{sort_in, least_sort, KeepsKindsOfVariables, IsFlatSubstitution}
-use Rattle.fvn_forms.proofs.SortOrder.{AtOrBelow-trans, AtOrBelow-antisym}
+use Rattle.fvn_forms.proofs.SortOrder.{AtOrBelow-trans}
 use Rattle.fvn_forms.proofs.Eval.{canon_settled, canon_plain, eval_apply}
 use Rattle.fvn_forms.proofs.Instances.{eval_canon}
 use Rattle.fvn_forms.proofs.LeastSort.{eval_is_canon, value_sort_keeps, inst_lowers, sort_in_monotone}
@@ -38,12 +38,11 @@ module _ (d : Declarations) (good : IsGood d) (w : Var → FlatTerm) (flat : IsF
   pub env_keeps : KeepsKindsOfVariables d env
   env_keeps = value_sort_keeps d good w flat (λ x. x.sort) own_keeps
 
-  -- a binding is right for the values: what the variable is bound to has its kind and its value, and its least sort over the values' is not above the value's
+  -- a binding is right for the values: what the variable is bound to has its kind and its value
   pub record IsRight (b : Var × FlatTerm) : Type 0 where
     pub settled : Settled d b.1
     pub kinded : IsSort d b.0.sort → HasKind d (plain b.1) (kind d b.0.sort)
     pub value : inst d w b.1 ≡ w b.0
-    pub lowers : IsSort d b.0.sort → AtOrBelow d (sort_in d env b.1) (env b.0)
 
   -- what x is replaced by
   only_same : (b : Var × FlatTerm) (x : Var) → same_var b.0 x ≡ true → only b.0 (plain b.1) x ≡ plain b.1
@@ -85,13 +84,20 @@ module _ (d : Declarations) (good : IsGood d) (w : Var → FlatTerm) (flat : IsF
     keeps_kinds = λ x i. canon_of_kind d good.fits (unfolded bindings x) (kind d x.sort) (kinds_unfold bindings h x i);
   }
 
-  -- the least sort of what is unfolded is not above the value's
-  pub sort_unfolds : (bindings : Bindings) → All IsRight bindings → (x : Var) → IsSort d x.sort → AtOrBelow d (sort_in d env (unfolds_to d bindings x)) (env x)
-  sort_unfolds [] h x i = same
-  sort_unfolds (b ∷ bindings) h x i =
+  -- sorts of variables, of their kinds, which are not below their values' least sorts, nor below the sorts of what they are bound to
+  pub record AreAbove (bindings : Bindings) (upper : Var → SortId) : Type 0 where
+    pub keeps : KeepsKindsOfVariables d upper
+    pub above : (x : Var) → IsSort d x.sort → AtOrBelow d (env x) (upper x)
+    pub lowers : All (λ b. IsSort d b.0.sort → AtOrBelow d (sort_in d upper b.1) (upper b.0)) bindings
+
+  -- the least sort of what is unfolded is not above such a sort
+  pub sort_unfolds : (bindings : Bindings) → All IsRight bindings → (upper : Var → SortId) → AreAbove bindings upper → (x : Var) → IsSort d x.sort → AtOrBelow d (sort_in d env (unfolds_to d bindings x)) (upper x)
+  sort_unfolds [] h upper r x i = r.above x i
+  sort_unfolds (b ∷ bindings) h upper r x i =
       let right = All-head IsRight b bindings h in
       let tail = All-tail IsRight b bindings h in
-      let rest = sort_unfolds bindings tail in
+      let Lowers = λ (b : Var × FlatTerm). IsSort d b.0.sort → AtOrBelow d (sort_in d upper b.1) (upper b.0) in
+      let rest = sort_unfolds bindings tail upper (record { keeps = r.keeps; above = r.above; lowers = All-tail Lowers b bindings r.lowers }) in
       elim (cases_Bool (same_var b.0 x)) [
         | inl e ↦
             let is = same_var_is b.0 x e in
@@ -100,15 +106,19 @@ module _ (d : Declarations) (good : IsGood d) (w : Var → FlatTerm) (flat : IsF
             let flat_after = unfolding_flat bindings tail in
             let form : unfolds_to d (b ∷ bindings) x ≡ inst d after b.1 = ap (λ t. canon d (apply (unfolded bindings) t)) (only_same b x e) ∙ eval_apply d fvar (unfolded bindings) (plain b.1) in
             let lowered = inst_lowers d good after flat_after env env_keeps b.1 right.settled (kind d b.0.sort, right.kinded sorted) in
-            let widened = sort_in_monotone d good (λ z. sort_in d env (after z)) env (value_sort_keeps d good after flat_after env env_keeps) env_keeps rest b.1 right.settled (kind d b.0.sort, right.kinded sorted) in
-            subst (λ t. AtOrBelow d (sort_in d env t) (env x)) (sym form)
-            (subst (λ z. AtOrBelow d (sort_in d env (inst d after b.1)) (env z)) is (AtOrBelow-trans d (AtOrBelow-trans d lowered widened) (right.lowers sorted)))
-        | inr e ↦ subst (λ t. AtOrBelow d (sort_in d env (canon d (apply (unfolded bindings) t))) (env x)) (sym (only_other b x e)) (rest x i)
+            let widened = sort_in_monotone d good (λ z. sort_in d env (after z)) upper (value_sort_keeps d good after flat_after env env_keeps) r.keeps rest b.1 right.settled (kind d b.0.sort, right.kinded sorted) in
+            subst (λ t. AtOrBelow d (sort_in d env t) (upper x)) (sym form)
+            (subst (λ z. AtOrBelow d (sort_in d env (inst d after b.1)) (upper z)) is (AtOrBelow-trans d (AtOrBelow-trans d lowered widened) (All-head Lowers b bindings r.lowers sorted)))
+        | inr e ↦ subst (λ t. AtOrBelow d (sort_in d env (canon d (apply (unfolded bindings) t))) (upper x)) (sym (only_other b x e)) (rest x i)
       ]
 
+  -- where x's value is of its sort, there are such sorts that are not above this one
+  abbrev pub KeepsSort : Bindings → Var → Type 0
+  KeepsSort bindings x = AtOrBelow d (env x) x.sort → (upper : Var → SortId) × AreAbove bindings upper × AtOrBelow d (upper x) x.sort
+
   -- what is unfolded covers each substitution that has the values on the variables
-  pub unfolding_covers : (bindings : Bindings) → All IsRight bindings → (variables : List Var) (u : Substitution) → KeepsKinds d u → ((x : Var) → Contains variables x → IsSort d x.sort) → ((x : Var) → Contains variables x → canon d (u x) ≡ w x) → CoversOnKinds d variables (unfolds_to d bindings) u
-  unfolding_covers bindings right variables u keeps sorted has = record { later = later; keeps = flat.keeps_kinds; equal = equal; sorts = sorts }
+  pub unfolding_covers : (bindings : Bindings) → All IsRight bindings → (variables : List Var) (u : Substitution) → KeepsKinds d u → ((x : Var) → Contains variables x → IsSort d x.sort) → ((x : Var) → Contains variables x → canon d (u x) ≡ w x) → ((x : Var) → Contains variables x → KeepsSort bindings x) → CoversOnKinds d variables (unfolds_to d bindings) u
+  unfolding_covers bindings right variables u keeps sorted has keep_sorts = record { later = later; keeps = flat.keeps_kinds; equal = equal; sorts = sorts }
     where
       later : Substitution
       later x = plain (w x)
@@ -124,12 +134,11 @@ module _ (d : Declarations) (good : IsGood d) (w : Var → FlatTerm) (flat : IsF
           (b_equal_iff_canon d good.fits (u x) (apply later (plain (unfolds_to d bindings x))) (kind d x.sort, keeps x (sorted x c)) (kind d x.sort, HasKind-apply d later flat.keeps_kinds (plain (unfolds_to d bindings x)) (kind d x.sort) (kinded x c))).1
           (has x c ∙ sym (values x) ∙ sym (eval_is_canon d good w flat (plain (unfolds_to d bindings x))))
 
-      sorts : (x : Var) → Contains variables x → least_sort d (canon d (u x)) ≡ sort_in d (λ z. least_sort d (canon d (later z))) (unfolds_to d bindings x)
-      sorts x c =
-          let up : AtOrBelow d (env x) (sort_in d env (unfolds_to d bindings x)) =
-          subst (λ t. AtOrBelow d (least_sort d t) (sort_in d env (unfolds_to d bindings x))) (values x)
-          (inst_lowers d good w flat (λ z. z.sort) own_keeps (unfolds_to d bindings x) (canon_settled d (unfolded bindings x)) (kind d x.sort, kinded x c))
+      sorts : (x : Var) → Contains variables x → AtOrBelow d (least_sort d (canon d (u x))) x.sort → AtOrBelow d (sort_in d (λ z. least_sort d (canon d (later z))) (unfolds_to d bindings x)) x.sort
+      sorts x c below =
+          let r = keep_sorts x c (subst (λ v. AtOrBelow d (least_sort d v) x.sort) (has x c) below) in
+          let kept = AtOrBelow-trans d (sort_unfolds bindings right r.0 r.1 x (sorted x c)) r.2 in
+          let same : sort_in d env (unfolds_to d bindings x) ≡ sort_in d (λ z. least_sort d (canon d (later z))) (unfolds_to d bindings x) =
+          λ i. sort_in d (λ z. least_sort d (sym (canon_plain d (w z) (flat.settled z)) i)) (unfolds_to d bindings x)
           in
-          ap (least_sort d) (has x c)
-          ∙ AtOrBelow-antisym d good.kinded good.acyclic up (sort_unfolds bindings right x (sorted x c))
-          ∙ (λ i. sort_in d (λ z. least_sort d (sym (canon_plain d (w z) (flat.settled z)) i)) (unfolds_to d bindings x))
+          subst (λ q. AtOrBelow d q x.sort) same kept
