@@ -22,7 +22,6 @@ use Rattle.fvn_combine_leaves.specs.Readings.{IsReading}
 use Rattle.fvn_combine_leaves.specs.declared.reading.Sums.{Sums}
 use Rattle.fvn_combine_leaves.specs.declared.reading.Reading.{Reading}
 use Rattle.fvn_combine_choices.specs.Binding.{AreAsked}
-use Rattle.fvn_combine_complete.specs.Neutral.{IsNeutral}
 use Rattle.fvn_combine_admissible.specs.Aliases.{HasNoAlias}
 use Rattle.fvn_combine_leaves.proofs.ReadOfState.{column_within}
 use Rattle.fvn_combine_admissible.proofs.Listing.{operators_differ}
@@ -30,7 +29,7 @@ use Rattle.fvn_acunify_product.specs.Wheels.{Wheel}
 use Rattle.fvn_combine_candidates.specs.declared.sharing.SharedClass.{SharedClass}
 use Rattle.fvn_combine_leaves.specs.Bases.{IsBasis, AreBases}
 use Rattle.fvn_combine_candidates.specs.Sharing.{classes_of, MayBeSum, IsSharedClass, AreSharedClasses}
-use Rattle.fvn_combine_candidates.specs.Turning.{IsWheel, AreWheels, HaveBounds}
+use Rattle.fvn_combine_candidates.specs.Turning.{IsFullFor, IsWheel, AreWheels, HaveBounds}
 use Rattle.fvn_combine_candidates.specs.inner.Walking.{IsKeptBasis, AreBasesBelow, AreKeptBases, IsBoundedWheel, AreWheelsBelow, IsUserBelow, AreUsersBelow, AreSharedBelow}
 use Rattle.fvn_combine_candidates.proofs.Entries.{entry_at, read_at, one_entry}
 use Rattle.fvn_combine_candidates.proofs.Systems.{user_placed}
@@ -112,7 +111,7 @@ module _ (d : Declarations) (t : NodeTable) (class : ℕ → ℕ) where
   with_bounds tag e basis w v constants marks over full h = record {
     over = over ∙ h.over;
     asked = subst (λ cs. AreAsked d t class tag e.operator e.columns cs v.may_be_zero) (sym constants) (subst (AreAsked d t class tag e.operator e.columns w.constants) (sym marks) h.asked);
-    full = subst (λ b. (b ≡ true) ↔ IsNeutral d e.operator) (sym full) h.full;
+    full = subst (IsFullFor d t class e) (sym full) h.full;
   }
 
 module _ (d : Declarations) (t : NodeTable) (class : ℕ → ℕ) (sorted : Bool) where
