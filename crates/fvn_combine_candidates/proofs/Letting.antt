@@ -1,18 +1,19 @@
 -- Classes that take an identity, by the sorts that nodes ask of them and by the operators that use them.
-use Rattle.std.proofs.Common.{◌≡◌, ◌≢◌, ◌⊎◌, ℕ, ◌+◌, ◌<◌, Bool, true, List, [], ◌∷◌, ◌++◌, length, get_or, slice_index_or, refl, sym, ap, ◌∙◌, subst, inl, inr, arith, AllPairs, Contains, Option, Some, None}
-use Rattle.std.specs.Prelude.{◌↔◌, slice_get}
+use Rattle.std.proofs.Common.{◌≡◌, ◌≢◌, ◌⊎◌, ℕ, ◌+◌, ◌<◌, Bool, true, false, not, List, [], ◌∷◌, ◌++◌, length, get_or, slice_index_or, refl, sym, ap, ◌∙◌, subst, inl, inr, arith, AllPairs, Contains, Option, Some, None}
+use Rattle.std.specs.Prelude.{◌↔◌, IsTrue, slice_get}
 use Rattle.std.proofs.lemmas.Bool.{cases_lt, cases_eq}
 use Rattle.std.proofs.lemmas.List.Elements.{Contains-append_left, Contains-push, Contains-push_cases}
 use Rattle.fvn_base.proofs.Membership.{contains_none}
 use Rattle.fvn_terms.specs.declared.plain.OpId.{OpId}
 use Rattle.fvn_terms.specs.declared.plain.SortId.{SortId}
-use Rattle.fvn_terms.specs.declared.declarations.Axioms.TheVariants.{Comm}
+use Rattle.fvn_terms.specs.declared.declarations.Axioms.{Axioms}
+use Rattle.fvn_terms.specs.declared.declarations.Axioms.TheVariants.{Free, Comm, AssocComm, AssocCommId}
 use Rattle.fvn_terms.specs.declared.declarations.Rank.{Rank}
 use Rattle.fvn_terms.specs.declared.declarations.Declarations.{Declarations}
 use Rattle.fvn_terms.specs.Signature.{axioms, declared}
-use Rattle.fvn_terms.specs.Equality.{identity}
+use Rattle.fvn_terms.specs.Equality.{IsAssociative, identity}
 use Rattle.fvn_acunify.specs.ValidChoice.{touched}
-use Rattle.fvn_flat.specs.SolvedLists.{component}
+use Rattle.fvn_flat.specs.SolvedLists.{component, IsSimple}
 use Rattle.fvn_combine_nodes.specs.Table.{NodeTable}
 use Rattle.fvn_combine_nodes.specs.declared.table.Node.{Node}
 use Rattle.fvn_combine_nodes.specs.declared.table.Node.TheVariants.{Var, App}
@@ -40,6 +41,24 @@ one_more P xs n x at here before j y m is = elim (cases_lt j n) [
       let one : x ≡ y = one_entry xs n x y at (subst (λ k. slice_get xs k ≡ Some y) same is) in
       subst (λ k. P k y) (sym same) (subst (P n) one here)
 ]
+
+-- a test turned round
+pub not_told : {P : Type 0} (b : Bool) → IsTrue b ↔ P → IsTrue (not b) ↔ (P → ⊥)
+not_told true h = (λ e. cc, λ n. absurd (n (h.0 refl)))
+not_told false h = (λ _ p. let e : false ≡ true = h.1 p in cc, λ _. refl)
+
+-- an operator is free or commutative, or it makes sums
+pub simple_not : (a : Axioms) → IsAssociative a → IsSimple a → ⊥
+simple_not Free h s = h
+simple_not Comm h s = h
+simple_not AssocComm h s = s
+simple_not (AssocCommId e) h s = s
+
+pub not_simple : (a : Axioms) → (IsAssociative a → ⊥) → IsSimple a
+not_simple Free n = tt
+not_simple Comm n = tt
+not_simple AssocComm n = absurd (n tt)
+not_simple (AssocCommId e) n = absurd (n tt)
 
 -- by all ranks of an operator
 module _ (d : Declarations) (P : SortId → Type 0) (g : OpId) (p : ℕ) (swaps : Bool) (told : (swaps ≡ true) ↔ (axioms d g ≡ Comm)) where
