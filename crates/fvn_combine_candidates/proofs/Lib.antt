@@ -13,4 +13,5 @@ mod Ordered
 mod Setting
 mod Few
 mod Absorbing
+mod Letting
 mod Turned
