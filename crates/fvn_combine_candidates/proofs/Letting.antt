@@ -1,7 +1,8 @@
 -- Classes that take an identity, by the sorts that nodes ask of them and by the operators that use them.
-use Rattle.std.proofs.Common.{◌≡◌, ◌≢◌, ◌⊎◌, ℕ, ◌+◌, ◌<◌, Bool, true, false, not, List, [], ◌∷◌, ◌++◌, length, get_or, slice_index_or, refl, sym, ap, ◌∙◌, subst, inl, inr, arith, AllPairs, Contains, Option, Some, None}
+use Rattle.std.proofs.Common.{◌≡◌, ◌⊎◌, ℕ, ◌+◌, ◌<◌, ◌≤◌, Bool, true, false, not, List, [], ◌∷◌, ◌++◌, length, get_or, slice_index_or, refl, sym, ap, ◌∙◌, subst, inl, inr, arith, Contains, Option, Some, None}
 use Rattle.std.specs.Prelude.{◌↔◌, IsTrue, slice_get}
-use Rattle.std.proofs.lemmas.Bool.{cases_lt, cases_eq}
+use Rattle.std.proofs.lemmas.Bool.{cases_lt}
+use Rattle.std.proofs.lemmas.List.{get_or_default}
 use Rattle.std.proofs.lemmas.List.Elements.{Contains-append_left, Contains-push, Contains-push_cases}
 use Rattle.fvn_base.proofs.Membership.{contains_none}
 use Rattle.fvn_terms.specs.declared.plain.OpId.{OpId}
@@ -11,9 +12,8 @@ use Rattle.fvn_terms.specs.declared.declarations.Axioms.TheVariants.{Free, Comm,
 use Rattle.fvn_terms.specs.declared.declarations.Rank.{Rank}
 use Rattle.fvn_terms.specs.declared.declarations.Declarations.{Declarations}
 use Rattle.fvn_terms.specs.Signature.{axioms, declared}
-use Rattle.fvn_terms.specs.Equality.{IsAssociative, identity}
-use Rattle.fvn_acunify.specs.ValidChoice.{touched}
-use Rattle.fvn_flat.specs.SolvedLists.{component, IsSimple}
+use Rattle.fvn_terms.specs.Equality.{IsAssociative}
+use Rattle.fvn_flat.specs.SolvedLists.{IsSimple}
 use Rattle.fvn_combine_nodes.specs.Table.{NodeTable}
 use Rattle.fvn_combine_nodes.specs.declared.table.Node.{Node}
 use Rattle.fvn_combine_nodes.specs.declared.table.Node.TheVariants.{Var, App}
@@ -21,14 +21,11 @@ use Rattle.fvn_combine_leaves.specs.Leaves.{IsSolid, Uses}
 use Rattle.fvn_combine_leaves.specs.Readings.{IsReading}
 use Rattle.fvn_combine_leaves.specs.declared.reading.Sums.{Sums}
 use Rattle.fvn_combine_leaves.specs.declared.reading.Reading.{Reading}
-use Rattle.fvn_combine_choices.proofs.Columns.{column_listed, column_is}
-use Rattle.fvn_combine_systems.proofs.Weighing.{component_at}
 use Rattle.fvn_combine_complete.specs.Neutral.{Absorbs, IsNeutral}
-use Rattle.fvn_combine_complete.specs.Vanishing.{TakesIdentity, MayVanish}
-use Rattle.fvn_combine_complete.proofs.Touching.{touched_none, touched_from}
-use Rattle.fvn_combine_candidates.specs.Turning.{TakesAt, AreOthers, IsFullFor}
-use Rattle.fvn_combine_candidates.specs.inner.Letting.{RankLets, RanksLet, ArgumentLets, AllLet, AreOthersBelow}
-use Rattle.fvn_combine_candidates.proofs.Entries.{read_at, one_entry, listed_at, placed_at}
+use Rattle.fvn_combine_complete.specs.Vanishing.{TakesIdentity}
+use Rattle.fvn_combine_candidates.specs.Turning.{TakesAt, AreOthers}
+use Rattle.fvn_combine_candidates.specs.inner.Letting.{RanksLet, ArgumentLets, AllLet, AreOthersBelow, AreFixedBelow}
+use Rattle.fvn_combine_candidates.proofs.Entries.{one_entry, listed_at, placed_at}
 use Rattle.fvn_combine_candidates.proofs.Systems.{user_placed}
 
 -- one place more
@@ -93,8 +90,8 @@ module _ (d : Declarations) (t : NodeTable) (class : ℕ → ℕ) where
 
     -- and then so do all nodes
     pub all_takes : TakesIdentity d t class f unit k → AllLet d t class (Absorbs d f unit) k
-    all_takes h i (Var x) is of = h.variables i x is of
-    all_takes h i (App g ks) is simple p j at of r listed q a stands may = h.arguments i p q j g ks is simple at of may r listed a stands
+    all_takes h i (Var x) is = λ of. h.variables i x is of
+    all_takes h i (App g ks) is = λ simple p j at of r listed q a stands may. h.arguments i p q j g ks is simple at of may r listed a stands
 
   module _ (r : Reading) (reading : IsReading d t class r) where
     -- by all entries an operator alone uses a class
@@ -115,11 +112,10 @@ module _ (d : Declarations) (t : NodeTable) (class : ℕ → ℕ) where
         go (Some g) e = soft g ((reading.heads.exact k g l).0 e)
 
   -- all other columns, where the operator is not neutral
-  pub others_told : (e : Sums) (unit : OpId) (n : ℕ) (list : List ℕ) → (IsNeutral d e.operator → ⊥) → n ≡ length e.columns
-      → AreOthersBelow (λ j. TakesIdentity d t class e.operator unit (get_or e.columns j 0)) n list → AreOthers d t class e unit list
-  others_told e unit n list not_neutral long h = record {
-    exact = λ j m. let b = h.exact j m in (subst (λ k. j < k) long b.0, none j b.1);
-    rest = λ j l. elim (h.rest j (subst (λ k. j < k) (sym long) l)) [ inl m ↦ inl m | inr takes ↦ inr (inr takes) ];
+  pub others_told : (e : Sums) (unit : OpId) (list : List ℕ) → (IsNeutral d e.operator → ⊥) → AreFixedBelow d t class e unit (length e.columns) list → AreOthers d t class e unit list
+  others_told e unit list not_neutral h = record {
+    exact = λ j m. let b = h.exact j m in (b.0, none j b.1);
+    rest = λ j l. elim (h.rest j l) [ inl m ↦ inl m | inr takes ↦ inr (inr takes) ];
   }
     where
       none : (j : ℕ) → (TakesIdentity d t class e.operator unit (get_or e.columns j 0) → ⊥) → TakesAt d t class e unit j → ⊥
@@ -129,40 +125,6 @@ module _ (d : Declarations) (t : NodeTable) (class : ℕ → ℕ) where
   -- and none where it is
   pub no_others : (e : Sums) (unit : OpId) → IsNeutral d e.operator → AreOthers d t class e unit []
   no_others e unit neutral = record { exact = λ j m. absurd (contains_none j m); rest = λ j l. inr (inl neutral) }
-
-  -- a solution that is zero in all other columns may stand for the identity, and one that may is zero in them
-  module _ (e : Sums) (distinct : AllPairs ◌≢◌ e.columns) (v : List ℕ) where
-    pub vanishes : (unit : OpId) → identity (axioms d e.operator) ≡ Some unit → (others : List ℕ) → AreOthers d t class e unit others → touched others v ≡ 0 → MayVanish d t class e.operator e.columns v
-    vanishes unit is others are none = record {
-      unit = unit;
-      is_identity = is;
-      each = λ k above.
-          let m = column_listed e.columns v k above in
-          let at = column_is e.columns k m in
-          elim (are.rest m.0 m.1) [
-            | inl other ↦
-                let zero = component_at e.columns v distinct m.0 m.1 in
-                let here = ap (component e.columns v) at in
-                let out = touched_none others v none m.0 other in
-                absurd (omega (arith, above, zero, here, out))
-            | inr takes ↦ subst (λ j. IsNeutral d e.operator ⊎ TakesIdentity d t class e.operator unit j) at takes
-          ];
-    }
-
-    pub vanishing_is_zero : (unit : OpId) → identity (axioms d e.operator) ≡ Some unit → (others : List ℕ) → AreOthers d t class e unit others → MayVanish d t class e.operator e.columns v → touched others v ≡ 0
-    vanishing_is_zero unit is others are may = touched_from others v (λ j m. zero_at j (are.exact j m))
-      where
-        same : may.unit ≡ unit
-        same = let both : Some may.unit ≡ Some unit = sym may.is_identity ∙ is in cc
-
-        zero_at : (j : ℕ) → (j < length e.columns) × (TakesAt d t class e unit j → ⊥) → get_or v j 0 ≡ 0
-        zero_at j other = elim (cases_eq (get_or v j 0) 0) [
-          | inl zero ↦ zero
-          | inr some ↦
-              let here = component_at e.columns v distinct j other.0 in
-              let takes = may.each (get_or e.columns j 0) (omega (arith, some, here)) in
-              absurd (other.1 (subst (λ o. IsNeutral d e.operator ⊎ TakesIdentity d t class e.operator o (get_or e.columns j 0)) same takes))
-        ]
 
 -- one more column
 module _ (takes : ℕ → Type 0) (n : ℕ) (list : List ℕ) (h : AreOthersBelow takes n list) where
@@ -187,5 +149,18 @@ module _ (takes : ℕ → Type 0) (n : ℕ) (list : List ℕ) (h : AreOthersBelo
     ];
   }
 
+-- all columns
+pub all_others : (takes : ℕ → Type 0) (n m : ℕ) (list : List ℕ) → m ≤ n → n ≤ m → AreOthersBelow takes n list → AreOthersBelow takes m list
+all_others takes n m list l g h = let same : n ≡ m = omega (arith, l, g) in subst (λ k. AreOthersBelow takes k list) same h
+
 pub none_below : (takes : ℕ → Type 0) → AreOthersBelow takes 0 []
 none_below takes = record { exact = λ j m. absurd (contains_none j m); rest = λ j l. absurd (omega (arith, l)) }
+
+-- what is read of a list at a place, and what is read of the same list
+pub column_in : (P : ℕ → Type 0) (xs ys : List ℕ) → xs ≡ ys → (j e : ℕ) → j < length ys → P (get_or ys j 0) → P (get_or xs j e)
+column_in P xs ys same j e l h = subst (λ zs. P (get_or zs j e)) (sym same) (subst P (sym (get_or_default ys j e 0 l)) h)
+
+pub column_iff : (A : Type 0) (P : ℕ → Type 0) (xs ys : List ℕ) → xs ≡ ys → (j e : ℕ) → j < length ys → A ↔ P (get_or xs j e) → A ↔ P (get_or ys j 0)
+column_iff A P xs ys same j e l h =
+    let is : get_or xs j e ≡ get_or ys j 0 = ap (λ zs. get_or zs j e) same ∙ get_or_default ys j e 0 l in
+    subst (λ k. A ↔ P k) is h

@@ -1,5 +1,5 @@
 //! Classes whose value may be given the identity of an operator as one summand more.
-ghost use Rattle.std.specs.Prelude.{◌≡◌, ◌↔◌, ◌⊎◌, ◌<◌, ℕ, List, true, length, slice_get, slice_index_or, All, Contains, IfOk, IsTrue, Some, None};
+ghost use Rattle.std.specs.Prelude.{◌≡◌, ◌↔◌, ◌⊎◌, ◌<◌, ℕ, List, true, length, slice_get, slice_index, slice_index_or, All, Contains, IfOk, IsTrue, Some, None};
 ghost use Rattle.fvn_terms.specs.declared.plain.OpId.{OpId};
 ghost use Rattle.fvn_terms.specs.declared.declarations.Axioms.TheVariants.{Comm};
 ghost use Rattle.fvn_flat.specs.SolvedLists.{IsSimple};
@@ -10,7 +10,7 @@ ghost use Rattle.fvn_combine_leaves.specs.Readings.{IsReading};
 ghost use Rattle.fvn_combine_complete.specs.Neutral.{Absorbs};
 ghost use Rattle.fvn_combine_complete.specs.Vanishing.{TakesIdentity};
 ghost use Rattle.fvn_combine_candidates.specs.Turning.{AreOthers};
-ghost use Rattle.fvn_combine_candidates.specs.inner.Letting.{RankLets, RanksLet, ArgumentLets, ArgumentsLet, NodeLets, AllLet};
+ghost use Rattle.fvn_combine_candidates.specs.inner.Letting.{RankLets, RanksLet, ArgumentLets, ArgumentsLet, NodeLets, AllLet, AreFixedBelow};
 
 use crate::neutral::{absorbs, is_neutral};
 use fvn_combine_admissible::uses;
@@ -243,6 +243,55 @@ fn takes_identity(
     all_let(sig, table, state, f, e, k)
 }
 
+// Whether the class of column j takes the identity e of the operator.
+fn takes_at(
+    sig: &Signature,
+    table: &Table,
+    state: &State,
+    reading: &Reading,
+    sums: &Sums,
+    e: OpId,
+    j: usize,
+) -> bool
+    requires closed { IsClosed sig.now table.now state.now }
+    requires reading { IsReading sig.now table.now (class_of state.now) reading.now }
+    requires listed { Contains reading.now.sums sums.now }
+    requires within { j < length sums.now.columns }
+    ensures { IsTrue result ↔ TakesIdentity sig.now table.now (class_of state.now)
+        sums.now.operator e (slice_index sums.now.columns j) }
+{
+    table.recall_well_made();
+    let columns = sums.columns.as_slice();
+    takes_identity(sig, table, state, reading, sums.operator, e, columns[j])
+}
+
+// The columns whose classes do not.
+fn fixed_columns(
+    alloc: Global,
+    sig: &Signature,
+    table: &Table,
+    state: &State,
+    reading: &Reading,
+    sums: &Sums,
+    e: OpId,
+) -> Result<Vec<usize>, NoMemory>
+    requires closed { IsClosed sig.now table.now state.now }
+    requires reading { IsReading sig.now table.now (class_of state.now) reading.now }
+    requires listed { Contains reading.now.sums sums.now }
+    ensures { IfOk result (λ v.
+        AreFixedBelow sig.now table.now (class_of state.now) sums.now e
+        (length sums.now.columns) v.items) }
+{
+    let mut list = Vec::new(alloc);
+    for j in 0..sums.columns.len() {
+        if takes_at(sig, table, state, reading, sums, e, j) {
+            continue;
+        }
+        list.push(j)?;
+    }
+    Ok(list)
+}
+
 // The columns of which the class does not take the identity e, where the operator is not neutral.
 pub(crate) fn other_columns(
     alloc: Global,
@@ -259,17 +308,9 @@ pub(crate) fn other_columns(
     ensures { IfOk result (λ v.
         AreOthers sig.now table.now (class_of state.now) sums.now e v.items) }
 {
-    table.recall_well_made();
-    let mut list = Vec::new(alloc);
     if is_neutral(sig, sums.operator) {
-        return Ok(list);
+        return Ok(Vec::new(alloc));
     }
-    let columns = sums.columns.as_slice();
-    for j in 0..columns.len() {
-        if takes_identity(sig, table, state, reading, sums.operator, e, columns[j]) {
-            continue;
-        }
-        list.push(j)?;
-    }
+    let list = fixed_columns(alloc, sig, table, state, reading, sums, e)?;
     Ok(list)
 }

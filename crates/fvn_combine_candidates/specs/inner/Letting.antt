@@ -1,5 +1,5 @@
 -- Nodes that let a class take an identity: the sorts that they ask of it are sorts of every sum with the identity.
-use Rattle.std.specs.Prelude.{◌≡◌, ◌⊎◌, ◌<◌, ℕ, Bool, true, List, slice_get, Some, Contains}
+use Rattle.std.specs.Prelude.{◌≡◌, ◌⊎◌, ◌<◌, ℕ, Bool, true, List, slice_get, slice_index, Some, Contains}
 use Rattle.fvn_terms.specs.declared.plain.OpId.{OpId}
 use Rattle.fvn_terms.specs.declared.plain.SortId.{SortId}
 use Rattle.fvn_terms.specs.declared.declarations.Axioms.TheVariants.{Comm}
@@ -40,7 +40,16 @@ module _ (d : Declarations) where
 abbrev pub AllLet : (d : Declarations) (t : NodeTable) (class : ℕ → ℕ) (P : SortId → Type 0) (k : ℕ) → Type 0
 AllLet d t class P k = (i : ℕ) (n : Node) → slice_get t.nodes i ≡ Some n → NodeLets d class P k i n
 
--- the columns before this one of which the class does not take the identity
+-- the numbers below n of which this does not hold
 pub record AreOthersBelow (takes : ℕ → Type 0) (n : ℕ) (list : List ℕ) : Type 0 where
   pub exact : (j : ℕ) → Contains list j → (j < n) × (takes j → ⊥)
   pub rest : (j : ℕ) → j < n → Contains list j ⊎ takes j
+
+module _ (d : Declarations) (t : NodeTable) (class : ℕ → ℕ) where
+  -- the class of column j takes the constant unit under the operator
+  abbrev pub IsTakenAt : Sums → OpId → ℕ → Type 0
+  IsTakenAt e unit j = TakesIdentity d t class e.operator unit (slice_index e.columns j)
+
+  -- the columns before this one of which that is not so
+  abbrev pub AreFixedBelow : Sums → OpId → ℕ → List ℕ → Type 0
+  AreFixedBelow e unit n list = AreOthersBelow (IsTakenAt e unit) n list
