@@ -4,7 +4,9 @@ use Rattle.std.specs.Prelude.{◌↔◌, IsTrue, slice_get}
 use Rattle.std.proofs.lemmas.Bool.{cases_lt}
 use Rattle.std.proofs.lemmas.List.{get_or_default}
 use Rattle.std.proofs.lemmas.List.Elements.{Contains-append_left, Contains-push, Contains-push_cases}
+use Rattle.std.proofs.lemmas.Option.{slice_get-get_or}
 use Rattle.fvn_base.proofs.Membership.{contains_none}
+use Rattle.fvn_base.proofs.Options.{Some-injective}
 use Rattle.fvn_terms.specs.declared.plain.OpId.{OpId}
 use Rattle.fvn_terms.specs.declared.plain.SortId.{SortId}
 use Rattle.fvn_terms.specs.declared.declarations.Axioms.{Axioms}
@@ -38,6 +40,22 @@ one_more P xs n x at here before j y m is = elim (cases_lt j n) [
       let one : x ≡ y = one_entry xs n x y at (subst (λ k. slice_get xs k ≡ Some y) same is) in
       subst (λ k. P k y) (sym same) (subst (P n) one here)
 ]
+
+-- one place more, by what is read there
+pub one_place : {A : Type 0} (P : ℕ → A → Type 0) (xs : List A) (n : ℕ) → ((y : A) → slice_get xs n ≡ Some y → P n y)
+    → ((j : ℕ) (y : A) → j < n → slice_get xs j ≡ Some y → P j y) → (j : ℕ) (y : A) → j < n + 1 → slice_get xs j ≡ Some y → P j y
+one_place P xs n here before j y m is = elim (cases_lt j n) [
+  | inl below ↦ before j y below is
+  | inr above ↦
+      let same : j ≡ n = omega (arith, m, above) in
+      subst (λ k. P k y) (sym same) (here y (subst (λ k. slice_get xs k ≡ Some y) same is))
+]
+
+-- what is told of the sort that is read at a place is told of each that stands there
+pub sort_iff : (A : Type 0) (P : SortId → Type 0) (xs ys : List SortId) → xs ≡ ys → (q : ℕ) (s : SortId) → q < length xs → A ↔ P (get_or xs q s) → A ↔ ((a : SortId) → slice_get ys q ≡ Some a → P a)
+sort_iff A P xs ys same q s l h =
+    let at : slice_get ys q ≡ Some (get_or xs q s) = subst (λ zs. slice_get zs q ≡ Some (get_or xs q s)) same (slice_get-get_or xs q s l) in
+    (λ t a is. subst P (Some-injective (sym at ∙ is)) (h.0 t), λ all. h.1 (all (get_or xs q s) at))
 
 -- a test turned round
 pub not_told : {P : Type 0} (b : Bool) → IsTrue b ↔ P → IsTrue (not b) ↔ (P → ⊥)

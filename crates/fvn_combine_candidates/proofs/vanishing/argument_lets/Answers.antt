@@ -24,7 +24,7 @@ returns-in-Some c =
     let g = c.args.g in
     let is : c.as_slice.result.now ≡ (declared d g).ranks =
     c.as_slice.ensures ∙ ap (λ (o : OpDecl). o.ranks) c.in-Some.ensures ∙ ap (λ (k : Declarations). (declared k g).ranks) c.declarations.ensures in
-    let told : (c.is_swap-swaps.result ≡ true) ↔ (axioms d g ≡ Comm) = (λ t. sym c.axioms-swaps.ensures ∙ c.is_swap-swaps.ensures.0 t, λ e. c.is_swap-swaps.ensures.1 (c.axioms-swaps.ensures ∙ e)) in
+    let told : (c.is_swap-swaps.result ≡ true) ↔ (axioms d g ≡ Comm) = (λ t. sym c.axioms.ensures ∙ c.is_swap-swaps.ensures.0 t, λ e. c.is_swap-swaps.ensures.1 (c.axioms.ensures ∙ e)) in
     let by = argument_by_ranks d (Absorbs d c.args.f c.args.e) g c.args.p c.is_swap-swaps.result told in
     let iff : IsTrue c.ranks_let.result ↔ RanksLet (Absorbs d c.args.f c.args.e) c.is_swap-swaps.result c.args.p (declared d g).ranks =
     subst (λ rs. IsTrue c.ranks_let.result ↔ RanksLet (Absorbs d c.args.f c.args.e) c.is_swap-swaps.result c.args.p rs) is c.ranks_let.ensures in
