@@ -184,7 +184,7 @@ const SOLVED_WITH_ELEMENTS: &str = "4 20 A0 A1 l A2 l A3 l A4 l = A5 A6 l A7 l A
 100 200 A0 A1 l = B2 B3 l B4 l B5 l B6 l B7 l => complete 64";
 
 // The same over bags: an element is one summand, so that of thirteen elements only one is it. What no element is in may
-// be empty, so that four bags are four others in one way.
+// be empty, so that four bags are four others in one way, also inside an element.
 const SOLVED_OF_BAGS: &str = "100 200 A0 B1 t = g => complete 1
 100 200 A0 B1 t = g h t => complete 2
 100 200 A0 B1 t = g h i t t => complete 3
@@ -200,7 +200,8 @@ const SOLVED_OF_BAGS: &str = "100 200 A0 B1 t = g => complete 1
 100 200 B0 B1 t u = B2 B3 t u => complete 1
 100 200 B0 B1 B0 B1 t u t t = g B2 B3 B4 t u t t => complete 8
 100 200 B0 B1 t B0 B2 t v = B3 B4 t B3 B5 t v => complete 1
-100 200 B0 B1 B2 B3 t t t = B4 B5 B6 B7 t t t => complete 1";
+100 200 B0 B1 B2 B3 t t t = B4 B5 B6 B7 t t t => complete 1
+100 200 B0 B1 B2 B3 t t t u = B4 B5 B6 B7 t t t u => complete 1";
 
 // The same over sums with different identities, first over two: a class that both use may be the identity of either. Then
 // over all three, where it may be the one that two of them have.
