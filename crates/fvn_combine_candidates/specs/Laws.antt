@@ -18,7 +18,7 @@ use Rattle.fvn_combine_nodes.specs.Classes.{IsNodePartition}
 use Rattle.fvn_combine_nodes.specs.States.{Admits, IsClosed, class_of}
 use Rattle.fvn_combine_nodes.specs.Unifiers.{value_at, kernel}
 use Rattle.fvn_combine_nodes.specs.declared.state.State.{State}
-use Rattle.fvn_combine_leaves.specs.Bases.{AreBases}
+use Rattle.fvn_combine_leaves.specs.Bases.{AreBases, HaveAlive}
 use Rattle.fvn_combine_leaves.specs.Leaves.{IsLeaf}
 use Rattle.fvn_combine_leaves.specs.Readings.{IsReading}
 use Rattle.fvn_combine_leaves.specs.declared.reading.Reading.{Reading}
@@ -89,7 +89,7 @@ CoveringChoicesAreListed =
 abbrev pub ListsCover : Type 0
 ListsCover =
     (d : Declarations) → IsGood d → (problem : Problem) → IsProblem d problem → (t : NodeTable) → IsWellMade t → IsTableOf d problem t
-    → (s : State) (heads : List (Option OpId)) → IsLeaf d t heads s → (r : Reading) → IsReading d t (class_of s) r → (bases : List (List Solution)) → AreBases r.sums bases
+    → (s : State) (heads : List (Option OpId)) → IsLeaf d t heads s → (r : Reading) → IsReading d t (class_of s) r → (bases : List (List Solution)) → AreBases r.sums bases → HaveAlive d t s r.sums bases
     → (sorted : Bool) (shared : List SharedClass) → AreSharedClasses d t (class_of s) sorted shared → (u : Substitution) → IsKindUnifier d problem u → Admits s (kernel d u t.nodes) → ObeyHeads d t s heads (value_at d u t.nodes)
     → (sorted ≡ true → KeepsSorts d (variables_of problem) u)
     → (options : List ℕ) × (numbers : List ℕ) × AllZip IsOption (tag_counts shared) options

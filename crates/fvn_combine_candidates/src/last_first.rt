@@ -9,7 +9,7 @@ ghost use Rattle.fvn_terms.specs.Signature.{axioms};
 ghost use Rattle.fvn_terms.specs.Equality.{IsAssociative};
 ghost use Rattle.fvn_lindio.specs.Systems.{IsSystem};
 ghost use Rattle.fvn_combine_nodes.specs.States.{IsClosed, class_of};
-ghost use Rattle.fvn_combine_leaves.specs.Bases.{IsBasis, AreBases};
+ghost use Rattle.fvn_combine_leaves.specs.Bases.{IsBasis, AreBases, HaveAlive};
 ghost use Rattle.fvn_combine_leaves.specs.Readings.{AreSums, IsReading};
 ghost use Rattle.fvn_combine_candidates.specs.inner.Turned.{IsTurned};
 
@@ -190,7 +190,9 @@ pub fn bases_from_last(
 ) -> Result<Option<Vec<Seq<Solution>>>, NoMemory>
     requires closed { IsClosed sig.now table.now state.now }
     requires reading { IsReading sig.now table.now (class_of state.now) reading.now }
-    ensures { IfOk result (λ o. IfSome o (λ v. AreBases reading.now.sums v.items)) }
+    ensures bases { IfOk result (λ o. IfSome o (λ v. AreBases reading.now.sums v.items)) }
+    ensures alive { IfOk result (λ o. IfSome o (λ v.
+        HaveAlive sig.now table.now state.now reading.now.sums v.items)) }
 {
     let sums = reading.sums.as_slice();
     let headed = HeadedSums {
