@@ -2,3 +2,4 @@
 pub mod Walking
 pub mod Solved
 pub mod Turned
+pub mod Alive

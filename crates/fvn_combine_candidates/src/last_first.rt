@@ -40,7 +40,11 @@ pub(crate) fn copied_row(alloc: Global, row: &Row) -> Result<Row, NoMemory>
 }
 
 // These rows, and after them the others from the last to the first, in memory of their own.
-fn turned_rows(alloc: Global, first: Vec<Row>, rows: &[Row]) -> Result<Vec<Row>, NoMemory>
+pub(crate) fn turned_rows(
+    alloc: Global,
+    first: Vec<Row>,
+    rows: &[Row],
+) -> Result<Vec<Row>, NoMemory>
     ensures { IfOk result (λ v. v.items ≡ first.items ++ reverse rows.now) }
 {
     let mut turned = first;

@@ -2,6 +2,7 @@
 #![tactic(auto)]
 
 mod aliases;
+mod alive;
 mod defining;
 mod last_first;
 mod laws;
