@@ -13,3 +13,5 @@ mod Setting
 mod Few
 mod Absorbing
 mod Turned
+mod Zeroed
+mod Inserted
