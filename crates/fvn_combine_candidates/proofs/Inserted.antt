@@ -2,12 +2,13 @@
 use Rattle.std.proofs.Common.{◌≡◌, ℕ, ◌+◌, ◌-◌, ◌<◌, ◌≤◌, ◌⊎◌, ◌↔◌, List, [], ◌∷◌, ◌++◌, length, get_or, take, drop, map, sym, ap, ◌∙◌, subst, inl, inr, arith}
 use Rattle.std.specs.Prelude.{Bool, false, IsTrue}
 use Rattle.std.specs.List.{All, AllPairs, Contains, insert}
-use Rattle.std.proofs.lemmas.List.{get_or_default, get_or-map, map-append, take-map, drop-map}
+use Rattle.std.proofs.lemmas.List.{get_or_default, get_or-map, map-append, take-map, drop-map, take_all, length-map}
 use Rattle.std.proofs.lemmas.List.Elements.{Contains-get_or}
 use Rattle.std.proofs.lemmas.List.Edits.{length-insert, get_or-insert_below, get_or-insert_at, get_or-insert_above}
 use Rattle.std.proofs.lemmas.Bool.{cases_lt, cases_order}
 use Rattle.fvn_base.specs.Order.{IsBefore}
 use Rattle.fvn_base.proofs.Order.{before_else, before_trans}
+use Rattle.fvn_base.proofs.MappedLists.{mapped_member_old, mapped_member_new, mapped_member_cases}
 use Rattle.fvn_lindio.specs.declared.system.Solution.{Solution}
 use Rattle.fvn_lindio.specs.Systems.{vectors_of}
 use Rattle.fvn_lindio.specs.inner.Least.{IsPlace, StandsAt, GrowsBy, IsOrderedOf}
@@ -136,3 +137,33 @@ ordered_more n P xs ys size h o g = record { sized = λ k d l. at (get_or ys k d
     at : (w : List ℕ) → Contains xs w ⊎ P w → length w ≡ n
     at w (inl (k, l, e)) = ap length (sym e) ∙ h.sized k w l
     at w (inr p) = size w p
+
+-- ---- several solutions put in
+
+pub size_at : (n : ℕ) (more : List Solution) (i : ℕ) (x : Solution) → i < length more → x ≡ get_or more i x → All (λ v. length v ≡ n) (vectors_of more) → length x.parts ≡ n
+size_at n more i x l is h =
+    let long = length-map more (λ (w : Solution). w.parts) in
+    sym (ap length (vector_at more i x [] l is)) ∙ h i [] (omega (arith, l, long))
+
+pub put_none : (list more : List Solution) → GrowsBy (Contains (vectors_of (take 0 more))) (vectors_of list) (vectors_of list)
+put_none list more w = (λ m. inl m, from)
+  where
+    from : Contains (vectors_of list) w ⊎ Contains (vectors_of (take 0 more)) w → Contains (vectors_of list) w
+    from (inl m) = m
+    from (inr (k, l, e)) = absurd (omega (arith, l))
+
+pub put_more : (more : List Solution) (i : ℕ) (x : Solution) (old list new : List Solution) → i < length more → x ≡ get_or more i x
+    → GrowsBy (Contains (vectors_of (take i more))) (vectors_of old) (vectors_of list) → GrowsBy (λ w. x.parts ≡ w) (vectors_of list) (vectors_of new)
+    → GrowsBy (Contains (vectors_of (take (i + 1) more))) (vectors_of old) (vectors_of new)
+put_more more i x old list new l is h k w = (λ m. from ((k w).0 m), into)
+  where
+    from : Contains (vectors_of list) w ⊎ (x.parts ≡ w) → Contains (vectors_of old) w ⊎ Contains (vectors_of (take (i + 1) more)) w
+    from (inl m) = elim ((h w).0 m) [ inl o ↦ inl o | inr n ↦ inr (mapped_member_old (λ (z : Solution). z.parts) more i x w l is n) ]
+    from (inr e) = inr (subst (Contains (vectors_of (take (i + 1) more))) e (mapped_member_new (λ (z : Solution). z.parts) more i x l is))
+
+    into : Contains (vectors_of old) w ⊎ Contains (vectors_of (take (i + 1) more)) w → Contains (vectors_of new) w
+    into (inl o) = (k w).1 (inl ((h w).1 (inl o)))
+    into (inr m) = elim (mapped_member_cases (λ (z : Solution). z.parts) more i x w l is m) [ inl n ↦ (k w).1 (inl ((h w).1 (inr n))) | inr e ↦ (k w).1 (inr e) ]
+
+pub put_every : (more : List Solution) (i : ℕ) (old new : List Solution) → length more ≤ i → GrowsBy (Contains (vectors_of (take i more))) (vectors_of old) (vectors_of new) → GrowsBy (Contains (vectors_of more)) (vectors_of old) (vectors_of new)
+put_every more i old new l h = subst (λ xs. GrowsBy (Contains (vectors_of xs)) (vectors_of old) (vectors_of new)) (take_all i more l) h

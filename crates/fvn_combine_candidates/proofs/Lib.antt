@@ -15,3 +15,4 @@ mod Absorbing
 mod Turned
 mod Zeroed
 mod Inserted
+mod Living

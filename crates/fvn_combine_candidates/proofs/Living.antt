@@ -66,6 +66,12 @@ marked_part row v h (suc n) = go (marked_part row v h n) (mark_at row h n) (case
 
 -- ---- rows
 
+pub no_marking : IsMarking 0 []
+no_marking = record { sized = refl; marks = All-nil IsMark }
+
+pub one_marking : (n : ℕ) (marks : List ℤ) (c : ℤ) → IsMark c → IsMarking n marks → IsMarking (n + 1) (marks ++ c ∷ [])
+one_marking n marks c m h = record { sized = length_push marks c ∙ ap (λ i. i + 1) h.sized; marks = All-push IsMark marks c h.marks m }
+
 module _ (s : State) (heads : List (Option OpId)) (e : Sums) where
   pub no_marks : (k : ℕ) → AreMarksBelow s heads e k 0 []
   no_marks k = record { sized = refl; marks = All-nil IsMark; apart = λ j l o. absurd (omega (arith, l)) }
@@ -204,6 +210,18 @@ module _ (s : System) (rows : List Row) where
     sized = all_from (λ v. length v ≡ s.columns) (vectors_of list) (λ v m. (h.minimal v m).solves.sized);
     ordered = h.ordered;
   }
+
+  -- all rows
+  pub gathered_all : (n : ℕ) (list : List Solution) → length rows ≤ n → AreGathered s rows n list → AreGathered s rows (length rows) list
+  gathered_all n list l h = record {
+    minimal = h.minimal;
+    ordered = h.ordered;
+    narrow = h.narrow;
+    all = λ i row m. h.all i row (omega (arith, l, m));
+  }
+
+pub zero_sized : (s : System) (row : List ℤ) (basis : List Solution) → AreZeroAt s row basis → All (λ v. length v ≡ s.columns) (vectors_of basis)
+zero_sized s row basis h = all_from (λ v. length v ≡ s.columns) (vectors_of basis) (λ v m. ((h.exact v).0 m).0.solves.sized)
 
 -- ---- solutions that are alive
 
