@@ -226,22 +226,16 @@ pub fn bases_from_last(
     for i in 0..sums.len() {
         let entry = &sums[i];
         let hard = wide && are_uses_few(headed, entry);
-        let Some(basis) = found_basis(alloc, sig, table, state, reading, entry, hard)? else {
-            return Ok(None);
-        };
-        if !are_listed(
-            alloc,
-            sig,
-            table,
-            state,
-            headed,
-            entry,
-            sorted,
-            basis.as_slice(),
-        )? {
-            return Ok(None);
+        match found_basis(alloc, sig, table, state, reading, entry, hard)? {
+            None => return Ok(None),
+            Some(basis) => {
+                let solutions = basis.as_slice();
+                if !are_listed(alloc, sig, table, state, headed, entry, sorted, solutions)? {
+                    return Ok(None);
+                }
+                bases.push(basis)?;
+            }
         }
-        bases.push(basis)?;
     }
     Ok(Some(bases))
 }

@@ -47,7 +47,7 @@ loop-i-preserved c =
     let i = c.loop-i.i in
     let e = c.index-sums-i.result in
     let l = within_other c.as_slice-sums.result.now sums i c.as_slice-sums.ensures c.loop-i-test.true in
-    subst (AreBasesBelow P sums (i + 1)) (sym c.in_ok-push.ensures.items)
+    subst (AreBasesBelow P sums (i + 1)) (sym c.in_ok-push-in-Some.ensures.items)
     (more_bases P sums i c.loop-i.bases.items e c.in-Some.basis l (read_of_other c.as_slice-sums.result.now sums i e c.as_slice-sums.ensures c.index-sums-i.is) c.loop-i.invariant (rw c.in-Some.is at c.in_ok-found_basis.ensures))
 
 pub returns-clause-bases : goal.returns-clause-bases
