@@ -185,8 +185,9 @@ fn marked_rows(
 fn marked_system(alloc: Global, system: &System, row: &Row) -> Result<System, NoMemory>
     ensures { IfOk result (IsMarked system.now row.now) }
 {
+    let copy = copied_row(alloc, row)?;
     let mut first = Vec::new(alloc);
-    first.push(copied_row(alloc, row)?)?;
+    first.push(copy)?;
     let rows = turned_rows(alloc, first, system.rows.as_slice())?;
     Ok(System {
         columns: system.columns,
@@ -242,11 +243,18 @@ fn place_of(list: &[Solution], parts: &[u32]) -> usize
     0
 }
 
+// Whether both have the same parts.
+fn is_same(x: &[u32], y: &[u32]) -> bool
+    ensures { IsTrue result ↔ (x.now ≡ y.now) }
+{
+    x == y
+}
+
 // Whether the solution stands at this place of the list.
 fn stands_at(list: &[Solution], place: usize, parts: &[u32]) -> bool
     ensures { IsTrue result ↔ StandsAt (vectors_of list.now) place parts.now }
 {
-    place < list.len() && list[place].parts.as_slice() == parts
+    place < list.len() && is_same(list[place].parts.as_slice(), parts)
 }
 
 // Puts a solution into the list at its place, unless it is there already.

@@ -5,8 +5,9 @@ use Rattle.fvn_lindio.specs.Systems.{vectors_of}
 use Rattle.fvn_lindio.specs.inner.Least.{IsOrderedOf}
 use Rattle.fvn_combine_candidates.proofs.Inserted.{put_none, put_more, put_every, size_at}
 use Rattle.fvn_combine_candidates.proofs.alive.put_all.Goals as goal
+use Rattle.fvn_combine_candidates.proofs.alive.put_all.Goals.{After-solution-item}
 
-long : (c : goal.After-solution-item) → length c.solution-item.result.parts ≡ c.args.columns
+long : (c : After-solution-item) → length c.solution-item.result.parts ≡ c.args.columns
 long c = size_at c.args.columns c.args.more.now c.loop-solution.solution-index c.solution-item.result c.loop-solution-test.true c.solution-item.is c.requires.sized
 
 pub loop-solution-init : goal.loop-solution-init
