@@ -1,5 +1,6 @@
 -- What is handed on is of the task.
 use Rattle.std.proofs.Common.{sym, subst}
+use Rattle.std.specs.Prelude.{IfSome}
 use Rattle.fvn_combine_nodes.specs.States.{IsClosed, class_of}
 use Rattle.fvn_combine_leaves.specs.Bases.{HaveAlive}
 use Rattle.fvn_combine_leaves.specs.Readings.{IsReading}
@@ -14,4 +15,5 @@ bases_from_last-requires-clause-reading c = subst (λ (k : Combining). IsReading
 
 pub look_at_bases-requires-clause-alive : goal.look_at_bases-requires-clause-alive
 look_at_bases-requires-clause-alive c =
-    subst (λ (k : Combining). HaveAlive k.declarations k.table c.args.state.now c.args.reading.sums c.in-Some.bases.items) c.task.view_is (rw c.in-Some.is at c.in_ok-bases_from_last.ensures.alive)
+    subst (λ (k : Combining). HaveAlive k.declarations k.table c.args.state.now c.args.reading.sums c.in-Some.bases.items) c.task.view_is
+    (subst (λ o. IfSome o (λ v. HaveAlive c.task.inside.sig.now c.task.inside.table c.args.state.now c.args.reading.sums v.items)) c.in-Some.is c.in_ok-bases.ensures.alive)
