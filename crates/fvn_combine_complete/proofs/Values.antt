@@ -105,7 +105,7 @@ module _ (d : Declarations) (t : NodeTable) (made : IsWellMade t) (has : HasSums
   constant_alone f k h = single_part d f (values k) (constant_no_sum f k h) (constant_no_identity f k h)
 
   -- a single summand is a constant, whatever the tags are
-  single_constant : (f : OpId) (k : ℕ) → IsSingle d t class f k → IsConstant d t class tag f k
+  pub single_constant : (f : OpId) (k : ℕ) → IsSingle d t class f k → IsConstant d t class tag f k
   single_constant f k h = record { used = h.used; not_bound = unbound }
     where
       unbound : IsBound d t class tag f k → ⊥
