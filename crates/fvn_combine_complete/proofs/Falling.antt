@@ -23,14 +23,14 @@ use Rattle.fvn_combine_leaves.specs.Leaves.{IsLeaf, IsSumOperator, IsSolid, Uses
 use Rattle.fvn_combine_choices.specs.Binding.{IsBound, solid, alone, tagged, IsConstant}
 use Rattle.fvn_combine_choices.specs.Choosing.{Systems, Choice, AreSystems, AreTakenTogether, argument, summand, Falls, taken}
 use Rattle.fvn_combine_choices.specs.Tables.{HasSums}
-use Rattle.fvn_combine_complete.specs.Obeying.{IsTold, GoWith, IsSumOrIdentityOf, IsTakenAsSum}
+use Rattle.fvn_combine_complete.specs.Obeying.{IsTold, GoWith, IsSumOrIdentityOf, HasOneValue, IsTakenAsSum}
 use Rattle.fvn_combine_complete.specs.Obeyed.{AreObeying}
 use Rattle.fvn_combine_nodes.proofs.Heading.{build_free, build_commutative}
 use Rattle.fvn_combine_choices.proofs.Columns.{chosen_listed}
 use Rattle.fvn_combine_complete.proofs.Asked.{sum_or_identity_told}
 use Rattle.fvn_combine_complete.proofs.Taken.{laid_counts, contains_counted}
 use Rattle.fvn_combine_complete.proofs.TwoSummands.{shared_two, solid_two}
-use Rattle.fvn_combine_complete.proofs.Values.{bound_used, constant_why}
+use Rattle.fvn_combine_complete.proofs.Values.{bound_used, constant_why, single_constant}
 
 pub each_at : {A : Type 0} (P : A → Type 0) (l : List A) (x : A) → AllByRecursion P l → Contains l x → P x
 each_at P [] x h c = absurd (contains_none x c)

@@ -33,6 +33,7 @@ use Rattle.fvn_combine_choices.specs.Tables.{HasSums}
 use Rattle.fvn_combine_complete.specs.Obeying.{IsTold, GoWith, IsSumOf, IsSumOrIdentityOf, ObeyHeads, IsTakenAsSum, ObeyTags, TagsFollow}
 use Rattle.fvn_combine_complete.proofs.Heads.{build_constant, single_part}
 use Rattle.fvn_combine_complete.proofs.Identities.{UnitAt, unit_at, IsName, own_name, same_class, no_twin_identity}
+use Rattle.fvn_combine_complete.proofs.Singles.{solid_head}
 use Rattle.fvn_combine_complete.proofs.TwoSummands.{two_summands}
 
 equal_parts : (m n : ℕ) → pos m -ℤ pos n ≡ pos 0 → m ≡ n
@@ -55,17 +56,9 @@ module _ (d : Declarations) (t : NodeTable) (made : IsWellMade t) (has : HasSums
   abbrev class : ℕ → ℕ
   class = class_of s
 
-  settled_values : (ks : List ℕ) → AllByRecursion (Settled d) (map (λ k. values (class k)) ks)
-  settled_values [] = tt
-  settled_values (k ∷ ks) = (go_with.are.settled (class k), settled_values ks)
-
   -- an operator without an identity that heads a member heads the value
   pub head_of_solid : (f : OpId) (k : ℕ) → IsSolid d t class f k → head_of (values k) ≡ Some f
-  head_of_solid f k h =
-      ap (λ n. head_of (values n)) (sym h.of)
-      ∙ ap head_of (go_with.are.built h.member f h.arguments h.over)
-      ∙ build_head d f h.no_identity (map (λ k. values (class k)) h.arguments) (settled_values h.arguments)
-      (λ assoc. length-map h.arguments (λ k. values (class k)) ∙ (has.pairs h.member f h.arguments h.over assoc).0)
+  head_of_solid = solid_head d t made has s leaf values go_with
 
   -- its value is no sum of f, and not f's identity
   constant_other : (f : OpId) (k : ℕ) → IsConstant d t class tag f k → IsShared d t class k → IsSumOrIdentityOf d f (values k) → ⊥
