@@ -1,5 +1,5 @@
 -- Minimal solutions at or below what is counted of a flat form are alive, and so they are listed.
-use Rattle.std.proofs.Common.{◌≡◌, ℕ, zero, suc, ◌<◌, ◌≤◌, List, [], ◌∷◌, length, get_or, sym, ap, ◌∙◌, subst, inl, inr, arith, Contains, Option}
+use Rattle.std.proofs.Common.{◌≡◌, ℕ, zero, suc, ◌<◌, ◌≤◌, List, [], ◌∷◌, get_or, sym, ap, ◌∙◌, subst, inl, inr, arith, Contains, Option}
 use Rattle.std.proofs.lemmas.List.{get_or_default}
 use Rattle.fvn_base.proofs.Membership.{contains_cases, contains_none}
 use Rattle.fvn_terms.specs.declared.plain.OpId.{OpId}
@@ -16,7 +16,7 @@ use Rattle.fvn_combine_nodes.specs.States.{class_of}
 use Rattle.fvn_combine_nodes.specs.declared.state.State.{State}
 use Rattle.fvn_combine_systems.specs.NodeSystems.{IsNodeSystem}
 use Rattle.fvn_combine_systems.specs.Values.{Counts}
-use Rattle.fvn_combine_leaves.specs.Leaves.{IsLeaf, IsAlive, Uses}
+use Rattle.fvn_combine_leaves.specs.Leaves.{IsLeaf, Uses}
 use Rattle.fvn_combine_choices.specs.Binding.{IsConstant}
 use Rattle.fvn_combine_choices.specs.Tables.{HasSums}
 use Rattle.fvn_combine_complete.specs.Alive.{HasAlive}

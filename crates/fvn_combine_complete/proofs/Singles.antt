@@ -1,5 +1,5 @@
 -- Classes that are single summands by their heads: a solution in which they have one value is alive.
-use Rattle.std.proofs.Common.{◌≡◌, ◌≢◌, ◌⊎◌, ℕ, ◌<◌, List, [], ◌∷◌, length, map, sym, ap, ◌∙◌, inl, inr, Option, Some}
+use Rattle.std.proofs.Common.{◌≡◌, ◌≢◌, ℕ, ◌<◌, List, [], ◌∷◌, map, sym, ap, ◌∙◌, inl, inr, Option, Some}
 use Rattle.std.specs.List.{AllByRecursion}
 use Rattle.std.proofs.lemmas.List.{length-map}
 use Rattle.fvn_terms.specs.declared.plain.OpId.{OpId}

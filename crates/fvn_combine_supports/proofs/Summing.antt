@@ -8,7 +8,7 @@ use Rattle.std.proofs.lemmas.List.Elements.{All-head, All-tail, All-weaker, All-
 use Rattle.fvn_lindio.specs.Vectors.{IsAtOrBelow, add}
 use Rattle.fvn_lindio.specs.Systems.{Solves, IsMinimal}
 use Rattle.fvn_lindio.specs.Laws.{combination, MinimalBelow}
-use Rattle.fvn_combine_supports.proofs.Combining.{Sized, length-add, get_or-add, up-add, down-add, length-combination, combination-nothing}
+use Rattle.fvn_combine_supports.proofs.Combining.{Sized, get_or-add, up-add, down-add, length-combination, combination-nothing}
 
 zeroes_from_sum : (x : List ℕ) → sum x ≡ 0 → replicate (length x) 0 ≡ x
 zeroes_from_sum [] h = refl
