@@ -34,7 +34,7 @@ abbrev pub IsFinerAt : Combining → (Substitution → Type 0) → Ended → Typ
 IsFinerAt k ToCome (OfBasis f system) = k.general ≡ false → IsFinerToCome k.declarations k.given f system ToCome
 IsFinerAt k ToCome (OfSize list) = Unit {0}
 
--- g covers u, with its least sorts
+-- g covers u, and its values keep to the sorts of their variables where u's do
 abbrev pub IsCovered : Combining → Bindings → Substitution → Type 0
 IsCovered k g u = CoversOnKinds k.declarations (variables_of (problem_of k.given)) (value g) u
 

@@ -30,7 +30,8 @@ use Rattle.fvn_combine_leaves.specs.Leaves.{Uses}
 use Rattle.fvn_combine_complete.specs.CombineChoicesLaws.{ClassesHaveOneKind}
 use Rattle.fvn_sort_bounds.specs.Laws.{NarrowSortsHaveOneSummand, NarrowSortsHaveNoSum, OtherSortsHaveSomeSummand}
 use Rattle.fvn_combine_bounds.specs.Narrow.{HasVariable, IsSortedAt}
-use Rattle.fvn_combine_bounds.specs.Laws.{TakenSolutionsStandForSummands, NarrowClassesHaveOneSummand, OtherClassesHaveSomeSummand, ObeyedChoicesKeepBounds, NarrowClassesHaveNoTag, NeutralOperatorsAdmitSums}
+use Rattle.fvn_combine_bounds.specs.Laws.{TakenSolutionsStandForSummands, NarrowClassesHaveOneSummand, OtherClassesHaveSomeSummand, ObeyedChoicesKeepBounds, NarrowClassesHaveNoTag, NarrowClassesTakeNoIdentity, NeutralOperatorsAdmitSums}
+use Rattle.fvn_combine_bounds.proofs.Neutral.{absorbing_admits}
 
 module _ (law : UnifiersPartition) (d : Declarations) (problem : Problem) (t : NodeTable) (s : State) (u : Substitution) (at : IsSortedAt d problem t s u) (k : ℕ) (x : Variable) (has : HasVariable t (class_of s) k x) where
   within : has.node < length t.nodes
@@ -98,13 +99,19 @@ others_some law sorts d problem t s u at f k other e =
     sorts d at.good f x.sort other.none (u x) (is_term law d problem t s u at k x other.has) (at.sorted x (has_sort law d problem t s u at k x other.has))
     (ap (parts d f) (sym (value_is law d problem t s u at k x other.has)) ∙ e)
 
-pub bounds_kept : TakenSolutionsStandForSummands → NarrowClassesHaveOneSummand → OtherClassesHaveSomeSummand → NarrowClassesHaveNoTag → ObeyedChoicesKeepBounds
-bounds_kept taken one some none d problem t s u at y c obeying =
+pub narrow_take_none : UnifiersPartition → ClassesHaveOneKind → NarrowClassesTakeNoIdentity
+narrow_take_none law one d problem t s u at f unit is k used narrow takes =
+    let x = narrow.variable in
+    let fits = used_of_kind law d problem t s u at k x narrow.has one f used in
+    narrow.none (absorbing_admits d at.good f unit is x.sort fits (takes.variables narrow.has.node x narrow.has.is narrow.has.of))
+
+pub bounds_kept : TakenSolutionsStandForSummands → NarrowClassesHaveOneSummand → NarrowClassesTakeNoIdentity → OtherClassesHaveSomeSummand → NarrowClassesHaveNoTag → ObeyedChoicesKeepBounds
+bounds_kept taken one takes some none d problem t s u at y c obeying =
     let summands = taken d t (class_of s) y c (value_at d u t.nodes) obeying in
     record {
       once = λ f sum not_neutral k used narrow.
           let few = one d problem t s u at f sum.associative k narrow in
-          let counted = summands.within f sum not_neutral k used in
+          let counted = summands.within f sum not_neutral k used (λ unit is. takes d problem t s u at f unit is k used narrow) in
           omega (arith, few, counted);
       some = λ f sum k used other. summands.some f sum k used (some d problem t s u at f k other);
       untagged = λ f k shared used narrow never. none d problem t s u at c.tag obeying.tags f k shared used narrow never;

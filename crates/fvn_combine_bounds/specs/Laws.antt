@@ -32,7 +32,8 @@ use Rattle.fvn_combine_bounds.specs.Narrow.{IsNarrow, IsNeverIdentity, IsSortedA
 pub record IsTakenForSummands (d : Declarations) (t : NodeTable) (class : ℕ → ℕ) (y : Systems) (c : Choice)
     (values : ℕ → FlatTerm) : Type 0 where
   pub within : (f : OpId) → IsSumOperator d t f → (IsNeutral d f → ⊥) → (k : ℕ) → Uses d t class f k
-      → ((unit : OpId) → TakesIdentity d t class f unit k → ⊥) → member_count y c f k ≤ length (parts d f (values k))
+      → ((unit : OpId) → identity (axioms d f) ≡ Some unit → TakesIdentity d t class f unit k → ⊥)
+      → member_count y c f k ≤ length (parts d f (values k))
   pub some : (f : OpId) → IsSumOperator d t f → (k : ℕ) → Uses d t class f k → parts d f (values k) ≢ []
       → 0 < member_count y c f k
 
@@ -46,8 +47,8 @@ TakenSolutionsStandForSummands =
 abbrev pub NarrowClassesTakeNoIdentity : Type 0
 NarrowClassesTakeNoIdentity =
     (d : Declarations) (problem : Problem) (t : NodeTable) (s : State) (u : Substitution) → IsSortedAt d problem t s u
-    → (f unit : OpId) → identity (axioms d f) ≡ Some unit → (k : ℕ) → Uses d t (class_of s) f k → IsNarrow d t (class_of s) f k
-    → TakesIdentity d t (class_of s) f unit k → ⊥
+    → (f unit : OpId) → identity (axioms d f) ≡ Some unit → (k : ℕ) → Uses d t (class_of s) f k
+    → IsNarrow d t (class_of s) f k → TakesIdentity d t (class_of s) f unit k → ⊥
 
 -- the value of a narrow class has at most one summand
 abbrev pub NarrowClassesHaveOneSummand : Type 0

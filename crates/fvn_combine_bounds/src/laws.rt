@@ -1,6 +1,7 @@
 //! Laws of sorts and choices, each the contract of a function that does nothing.
 ghost use Rattle.fvn_combine_bounds.specs.Laws.{
   TakenSolutionsStandForSummands,
+  NarrowClassesTakeNoIdentity,
   NarrowClassesHaveOneSummand,
   OtherClassesHaveSomeSummand,
   ObeyedChoicesKeepBounds,
@@ -22,6 +23,14 @@ use fvn_sort_bounds::{
 pub fn taken_solutions_stand_for_summands()
     ensures { TakenSolutionsStandForSummands }
 {}
+
+/// A narrow class does not take the operator's identity: with it the sort of its variable would admit a sum.
+pub fn narrow_classes_take_no_identity()
+    ensures { NarrowClassesTakeNoIdentity }
+{
+    unifiers_partition();
+    classes_have_one_kind();
+}
 
 /// The value of a narrow class has at most one summand.
 pub fn narrow_classes_have_one_summand()
@@ -45,6 +54,7 @@ pub fn obeyed_choices_keep_bounds()
 {
     taken_solutions_stand_for_summands();
     narrow_classes_have_one_summand();
+    narrow_classes_take_no_identity();
     other_classes_have_some_summand();
     narrow_classes_have_no_tag();
 }

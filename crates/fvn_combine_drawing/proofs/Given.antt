@@ -4,6 +4,7 @@ use Rattle.std.specs.Prelude.{◌↔◌, Any}
 use Rattle.fvn_terms.specs.declared.plain.Var.{Var}
 use Rattle.fvn_terms.specs.declared.declarations.Declarations.{Declarations}
 use Rattle.fvn_terms.specs.Substitution.{Substitution, apply, Occurs}
+use Rattle.fvn_terms.specs.Signature.{AtOrBelow}
 use Rattle.fvn_terms.specs.Equality.{BEqual}
 use Rattle.fvn_forms.specs.Flat.{plain, symbols}
 use Rattle.fvn_forms.specs.Canon.{canon}
@@ -86,7 +87,7 @@ module _ (d : Declarations) (good : IsGood d) (given : Pairs) (first size : ℕ)
             later = k.later;
             keeps = k.keeps;
             equal = λ x m. subst (λ v. BEqual d (u x) (apply k.later (plain v))) (sym (values x m)) (k.equal x m);
-            sorts = λ x m. k.sorts x m ∙ ap (sort_in d (λ z. least_sort d (canon d (k.later z)))) (sym (values x m));
+            sorts = λ x m below. subst (λ v. AtOrBelow d (sort_in d (λ z. least_sort d (canon d (k.later z))) v) x.sort) (sym (values x m)) (k.sorts x m below);
           }
 
     pub drawn : (r : Drawn) → IsUnfoldedFrom d bindings vars size r → IsDrawnBy d given first size t s y c r

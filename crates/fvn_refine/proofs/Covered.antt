@@ -55,8 +55,8 @@ module _ (d : Declarations) where
           (sort_from_kind (least_sort d (canon d (c.later y))) (kind d y.sort) (good.kinded.listed y.sort i) (later_kind y i), later_kind y i);
       fits = λ x i.
           let term : IsTerm d (u x) = (kind d x.sort, sorted.0 x (sort_of_var d vars s fit are x i)) in
-          subst (λ q. AtOrBelow d q x.sort) (c.sorts x i ∙ ap (sort_in d (λ y. least_sort d (canon d (c.later y)))) (sym (canon_value d vars s fit are x)))
-          (least_sort_below d good (u x) term x.sort (sorted.1 x));
+          subst (λ q. AtOrBelow d q x.sort) (ap (sort_in d (λ y. least_sort d (canon d (c.later y)))) (sym (canon_value d vars s fit are x)))
+          (c.sorts x i (least_sort_below d good (u x) term x.sort (sorted.1 x)));
     }
 
     module _ (way : Way) (largest : IsLargest d vars s way) (above : (y : Var) → OccursInValues vars (substitution s) y → AtOrBelow d (least_sort d (canon d (c.later y))) (way y))
