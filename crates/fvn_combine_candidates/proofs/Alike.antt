@@ -91,7 +91,7 @@ pub covering_to : (d : Declarations) (problem : Problem) (t : NodeTable) (s : St
     → ((f : OpId) → IsSumOperator d t f → m f ≡ n f) → IsCovering d problem t s y u (record { tag = tag; number = m }) → IsCovering d problem t s y u (record { tag = tag; number = n })
 covering_to d problem t s y u tag m n same h = record {
   possible = possible_to d t (class_of s) y tag m n same h.possible;
-  full = λ f op neutral i l none. ap (λ b. b / 2 ^ i % 2) (sym (same f op)) ∙ h.full f op neutral i l none;
+  full = λ f op i l none may. ap (λ b. b / 2 ^ i % 2) (sym (same f op)) ∙ h.full f op i l none may;
   rank = h.rank;
   falls = falls_to d t (class_of s) y tag m n same h.rank h.falls;
   covers = λ first next plan after by. h.covers first next plan after (plan_from d t (class_of s) y tag m n same first next plan by);

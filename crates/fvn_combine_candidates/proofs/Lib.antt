@@ -2,6 +2,7 @@
 pub mod Entries
 mod Systems
 mod Refused
+mod Fullness
 mod Possible
 mod Bounded
 mod Tagged
@@ -12,6 +13,7 @@ mod Ordered
 mod Setting
 mod Few
 mod Absorbing
+mod Letting
 mod Turned
 mod Zeroed
 mod Inserted

@@ -1,5 +1,5 @@
 -- Choices by lists that are possible.
-use Rattle.std.proofs.Common.{◌≡◌, ℕ, ◌/◌, ◌%◌, ◌^◌, ◌<◌, ◌≤◌, Bool, true, List, [], length, slice_index, slice_index_or, refl, sym, ap, ◌∙◌, subst, arith, Contains, Option, Some}
+use Rattle.std.proofs.Common.{◌≡◌, ◌≢◌, ℕ, ◌/◌, ◌%◌, ◌^◌, ◌<◌, ◌≤◌, Bool, List, [], length, slice_index, slice_index_or, refl, sym, ap, ◌∙◌, subst, arith, AllPairs, Contains, Option, Some}
 use Rattle.std.specs.Prelude.{◌↔◌, slice_get}
 use Rattle.std.specs.List.{AllZip, sum_by}
 use Rattle.std.proofs.lemmas.Option.{slice_get_within}
@@ -23,7 +23,7 @@ use Rattle.fvn_combine_choices.specs.Laws.{ValidChoicesAreAcceptable}
 use Rattle.fvn_combine_admissible.specs.Listed.{tag_in, systems_of, choice_of}
 use Rattle.fvn_combine_admissible.specs.Aliases.{HasNoAlias}
 use Rattle.fvn_combine_complete.specs.Full.{HasNoConstant, IsFull}
-use Rattle.fvn_combine_complete.specs.Neutral.{IsNeutral}
+use Rattle.fvn_combine_complete.specs.Vanishing.{MayVanish}
 use Rattle.fvn_combine_complete.proofs.Touching.{bare_is}
 use Rattle.fvn_acunify_product.specs.Wheels.{Wheel, IsChoice}
 use Rattle.fvn_combine_candidates.specs.declared.sharing.SharedClass.{SharedClass}
@@ -32,7 +32,8 @@ use Rattle.fvn_combine_candidates.specs.Sharing.{AreSharedClasses}
 use Rattle.fvn_combine_candidates.specs.Tags.{AreTags}
 use Rattle.fvn_combine_candidates.specs.Turning.{IsWheel, AreWheels, LeaveNoAlias, AreWithin}
 use Rattle.fvn_combine_candidates.proofs.Entries.{entry_at, listed_at, zip_at, zip_from}
-use Rattle.fvn_combine_candidates.proofs.Systems.{IsPlaced, placed, operator_at, columns_for, basis_for, for_operator, make_systems}
+use Rattle.fvn_combine_candidates.proofs.Fullness.{vanishes_by, zero_by}
+use Rattle.fvn_combine_candidates.proofs.Systems.{IsPlaced, placed, operator_at, sums_at, columns_for, basis_for, for_operator, make_systems}
 use Rattle.fvn_combine_candidates.proofs.Tagged.{tags_are_users}
 
 -- what is said of two classes that a solution has, by columns and solutions
@@ -96,9 +97,6 @@ module _ (d : Declarations) (t : NodeTable) (class : ℕ → ℕ) (r : Reading) 
       is_wheel : IsWheel d t class (tag_in tags) p.entry (slice_index_or bases p.place []) w
       is_wheel = are_wheels.each p.place p.entry w p.is is
 
-      neutral : (w.full ≡ true) ↔ IsNeutral d f
-      neutral = subst (λ g. (w.full ≡ true) ↔ IsNeutral d g) p.operator is_wheel.full
-
       basis_is : (systems_of r bases).basis f ≡ vectors_of w.basis
       basis_is = basis_for d t class r reading f p bases are.as_many ∙ ap vectors_of (sym is_wheel.over)
 
@@ -110,19 +108,35 @@ module _ (d : Declarations) (t : NodeTable) (class : ℕ → ℕ) (r : Reading) 
           subst (λ cs. AreAsked d t class (tag_in tags) f cs w.constants w.may_be_zero) (sym cols) (subst (λ g. AreAsked d t class (tag_in tags) g p.entry.columns w.constants w.may_be_zero) p.operator is_wheel.asked) in
           bare_is d t class (tag_in tags) f ((systems_of r bases).columns f) system.distinct (λ k h. (system.exact k).1 h.used.column) w.constants w.may_be_zero asked v
 
-      whole_to : IsFull d t class (systems_of r bases) (choice_of r tags numbers) → w.full ≡ true → TakesAll w.constants (vectors_of w.basis) (slice_index numbers p.place)
-      whole_to h e i l none =
+      distinct_here : AllPairs ◌≢◌ p.entry.columns
+      distinct_here = (sums_at d t class r reading p.place p.entry p.is).is_system.distinct
+
+      -- what may stand for the identity, by the entry and by the systems
+      may_to : (v : List ℕ) → MayVanish d t class p.entry.operator p.entry.columns v → MayVanish d t class f ((systems_of r bases).columns f) v
+      may_to v m = subst (λ cs. MayVanish d t class f cs v) (sym (columns_for d t class r reading f p)) (subst (λ g. MayVanish d t class g p.entry.columns v) p.operator m)
+
+      may_from : (v : List ℕ) → MayVanish d t class f ((systems_of r bases).columns f) v → MayVanish d t class p.entry.operator p.entry.columns v
+      may_from v m = subst (λ g. MayVanish d t class g p.entry.columns v) (sym p.operator) (subst (λ cs. MayVanish d t class f cs v) (columns_for d t class r reading f p) m)
+
+      whole_to : IsFull d t class (systems_of r bases) (choice_of r tags numbers) → (others : List ℕ) → w.full ≡ Some others → TakesAll w.constants others (vectors_of w.basis) (slice_index numbers p.place)
+      whole_to h others e i l none zero =
           let n = ap length basis_is in
           let at = ap (λ vs. slice_index_or vs i []) basis_is in
+          let v = slice_index_or (vectors_of w.basis) i [] in
+          let may = may_to v (vanishes_by d t class p.entry distinct_here v w.full is_wheel.full others e zero) in
           ap (λ b. b / 2 ^ i % 2) (sym (number_for f p))
-          ∙ h f op (neutral.0 e) i (omega (arith, l, n)) (subst (HasNoConstant d t class (systems_of r bases) (choice_of r tags numbers) f) (sym at) ((bare (slice_index_or (vectors_of w.basis) i [])).0 none))
+          ∙ h f op i (omega (arith, l, n)) (subst (HasNoConstant d t class (systems_of r bases) (choice_of r tags numbers) f) (sym at) ((bare v).0 none))
+          (subst (MayVanish d t class f ((systems_of r bases).columns f)) (sym at) may)
 
-      whole_from : (w.full ≡ true → TakesAll w.constants (vectors_of w.basis) (slice_index numbers p.place)) → IsNeutral d f → (i : ℕ) → i < length ((systems_of r bases).basis f) → HasNoConstant d t class (systems_of r bases) (choice_of r tags numbers) f (slice_index_or ((systems_of r bases).basis f) i []) → (choice_of r tags numbers).number f / 2 ^ i % 2 ≡ 1
-      whole_from h n i l none =
+      whole_from : ((others : List ℕ) → w.full ≡ Some others → TakesAll w.constants others (vectors_of w.basis) (slice_index numbers p.place)) → (i : ℕ) → i < length ((systems_of r bases).basis f) → HasNoConstant d t class (systems_of r bases) (choice_of r tags numbers) f (slice_index_or ((systems_of r bases).basis f) i [])
+          → MayVanish d t class f ((systems_of r bases).columns f) (slice_index_or ((systems_of r bases).basis f) i []) → (choice_of r tags numbers).number f / 2 ^ i % 2 ≡ 1
+      whole_from h i l none may =
           let m = ap length basis_is in
           let at = ap (λ vs. slice_index_or vs i []) basis_is in
+          let v = slice_index_or (vectors_of w.basis) i [] in
+          let zero = zero_by d t class p.entry distinct_here v w.full is_wheel.full (may_from v (subst (MayVanish d t class f ((systems_of r bases).columns f)) at may)) in
           ap (λ b. b / 2 ^ i % 2) (number_for f p)
-          ∙ h (neutral.1 n) i (omega (arith, l, m)) ((bare (slice_index_or (vectors_of w.basis) i [])).1 (subst (HasNoConstant d t class (systems_of r bases) (choice_of r tags numbers) f) at none))
+          ∙ h zero.0 zero.1 i (omega (arith, l, m)) ((bare v).1 (subst (HasNoConstant d t class (systems_of r bases) (choice_of r tags numbers) f) at none)) zero.2
 
     -- the operator at a place
     abbrev here : (i : ℕ) (e : Sums) → slice_get r.sums i ≡ Some e → IsPlaced r e.operator
@@ -160,9 +174,9 @@ module _ (d : Declarations) (t : NodeTable) (class : ℕ → ℕ) (r : Reading) 
             let none = alias_to f p (subst (λ g. HasNoAlias d t class (tag_in tags) g p.entry.columns (chosen (slice_index numbers p.place) (vectors_of (slice_index_or bases p.place [])))) p.operator (h.1 p.place p.entry p.is)) in
             (at_wheel f op p w.0 w.1).1 ((zip_at IsChoice wheels numbers h.0 p.place w.0 w.1).valid, none);
       },
-      λ f op n.
+      λ f op.
           let p = placed d t class r reading f op in
           let w = wheel_here p.place p.entry p.is in
-          whole_from f op p w.0 w.1 (zip_at IsChoice wheels numbers h.0 p.place w.0 w.1).whole n,
+          whole_from f op p w.0 w.1 (zip_at IsChoice wheels numbers h.0 p.place w.0 w.1).whole,
       λ i w is. (zip_at IsChoice wheels numbers h.0 i w is).bounded,
     )

@@ -1,5 +1,5 @@
 -- What loops over sum operators and nodes gather.
-use Rattle.std.proofs.Common.{◌≡◌, ◌≢◌, ◌⊎◌, ℕ, ◌+◌, ◌<◌, ◌≤◌, Bool, true, List, [], ◌∷◌, ◌++◌, length, map, get_or, slice_index, slice_index_or, sym, ap, ◌∙◌, subst, inl, inr, arith, All, Contains, Option, Some}
+use Rattle.std.proofs.Common.{◌≡◌, ◌≢◌, ◌⊎◌, ℕ, ◌+◌, ◌<◌, ◌≤◌, Bool, List, [], ◌∷◌, ◌++◌, length, map, get_or, slice_index, slice_index_or, sym, ap, ◌∙◌, subst, inl, inr, arith, All, Contains, Option, Some}
 use Rattle.std.specs.Prelude.{◌↔◌, AllPairs, slice_get}
 use Rattle.std.proofs.lemmas.Bool.{cases_lt}
 use Rattle.std.proofs.lemmas.List.{length_push, get_or_append_left, get_or_push, map_push, get_or_default}
@@ -22,7 +22,6 @@ use Rattle.fvn_combine_leaves.specs.Readings.{IsReading}
 use Rattle.fvn_combine_leaves.specs.declared.reading.Sums.{Sums}
 use Rattle.fvn_combine_leaves.specs.declared.reading.Reading.{Reading}
 use Rattle.fvn_combine_choices.specs.Binding.{AreAsked}
-use Rattle.fvn_combine_complete.specs.Neutral.{IsNeutral}
 use Rattle.fvn_combine_admissible.specs.Aliases.{HasNoAlias}
 use Rattle.fvn_combine_leaves.proofs.ReadOfState.{column_within}
 use Rattle.fvn_combine_admissible.proofs.Listing.{operators_differ}
@@ -30,7 +29,7 @@ use Rattle.fvn_acunify_product.specs.Wheels.{Wheel}
 use Rattle.fvn_combine_candidates.specs.declared.sharing.SharedClass.{SharedClass}
 use Rattle.fvn_combine_leaves.specs.Bases.{AreBases, HaveAlive}
 use Rattle.fvn_combine_candidates.specs.Sharing.{classes_of, MayBeSum, IsSharedClass, AreSharedClasses}
-use Rattle.fvn_combine_candidates.specs.Turning.{IsWheel, AreWheels, HaveBounds}
+use Rattle.fvn_combine_candidates.specs.Turning.{IsFullFor, IsWheel, AreWheels, HaveBounds}
 use Rattle.fvn_combine_candidates.specs.inner.Alive.{IsAliveBasis}
 use Rattle.fvn_combine_candidates.specs.inner.Walking.{IsKeptBasis, AreBasesBelow, AreKeptBases, IsBoundedWheel, AreWheelsBelow, IsUserBelow, AreUsersBelow, AreSharedBelow}
 use Rattle.fvn_combine_candidates.proofs.Entries.{entry_at, read_at, one_entry}
@@ -122,7 +121,7 @@ module _ (d : Declarations) (t : NodeTable) (class : ℕ → ℕ) where
   with_bounds tag e basis w v constants marks over full h = record {
     over = over ∙ h.over;
     asked = subst (λ cs. AreAsked d t class tag e.operator e.columns cs v.may_be_zero) (sym constants) (subst (AreAsked d t class tag e.operator e.columns w.constants) (sym marks) h.asked);
-    full = subst (λ b. (b ≡ true) ↔ IsNeutral d e.operator) (sym full) h.full;
+    full = subst (IsFullFor d t class e) (sym full) h.full;
   }
 
 module _ (d : Declarations) (t : NodeTable) (class : ℕ → ℕ) (sorted : Bool) where

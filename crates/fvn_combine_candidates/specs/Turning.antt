@@ -1,5 +1,5 @@
 -- Wheels of the sum operators that are read, and what is asked of numbers beside them.
-use Rattle.std.specs.Prelude.{Bool, true, false, ◌↔◌, ◌≡◌, ◌⊎◌, ℕ, ◌<◌, List, length, slice_get, slice_index, slice_index_or, [], Some, None, Option, Contains}
+use Rattle.std.specs.Prelude.{Bool, true, false, ◌≡◌, ◌⊎◌, ℕ, ◌<◌, List, length, slice_get, slice_index, slice_index_or, [], Some, None, Option, Contains}
 use Rattle.fvn_terms.specs.declared.plain.OpId.{OpId}
 use Rattle.fvn_terms.specs.declared.declarations.Declarations.{Declarations}
 use Rattle.fvn_terms.specs.Signature.{axioms}
@@ -18,22 +18,27 @@ use Rattle.fvn_combine_complete.specs.Vanishing.{TakesIdentity}
 use Rattle.fvn_combine_bounds.specs.Bounding.{AreBounds}
 use Rattle.fvn_acunify_product.specs.Wheels.{Wheel}
 
-module _ (d : Declarations) (t : NodeTable) (class : ℕ → ℕ) (tag : ℕ → Option OpId) where
-  -- the columns of which the class does not take the operator's identity unit, where the operator is not neutral
-  abbrev pub AreOthers : Sums → OpId → List ℕ → Type 0
-  AreOthers e unit others = (j : ℕ) → Contains others j
-      ↔ ((j < length e.columns) × (IsNeutral d e.operator ⊎ TakesIdentity d t class e.operator unit (slice_index e.columns j) → ⊥))
+module _ (d : Declarations) (t : NodeTable) (class : ℕ → ℕ) where
+  -- the class of column j takes the identity unit of the operator, or the operator is neutral
+  abbrev pub TakesAt : Sums → OpId → ℕ → Type 0
+  TakesAt e unit j = IsNeutral d e.operator ⊎ TakesIdentity d t class e.operator unit (slice_index e.columns j)
+
+  -- the columns of which that is not so
+  pub record AreOthers (e : Sums) (unit : OpId) (others : List ℕ) : Type 0 where
+    pub exact : (j : ℕ) → Contains others j → (j < length e.columns) × (TakesAt e unit j → ⊥)
+    pub rest : (j : ℕ) → j < length e.columns → Contains others j ⊎ TakesAt e unit j
 
   -- where the operator has an identity, full choices alone are listed, with these other columns
   abbrev pub IsFullFor : Sums → Option (List ℕ) → Type 0
   IsFullFor e None = identity (axioms d e.operator) ≡ None
   IsFullFor e (Some others) = (unit : OpId) × (identity (axioms d e.operator) ≡ Some unit) × AreOthers e unit others
 
+module _ (d : Declarations) (t : NodeTable) (class : ℕ → ℕ) (tag : ℕ → Option OpId) where
   -- the wheel goes over these minimal solutions, with what is asked of them under the tags; it has full choices alone, where the operator has an identity
   pub record IsWheel (e : Sums) (basis : List Solution) (w : Wheel) : Type 0 where
     pub over : w.basis ≡ basis
     pub asked : AreAsked d t class tag e.operator e.columns w.constants w.may_be_zero
-    pub full : IsFullFor e w.full
+    pub full : IsFullFor d t class e w.full
 
   -- so does one wheel for each sum operator
   pub record AreWheels (sums : List Sums) (bases : List (List Solution)) (wheels : List Wheel) : Type 0 where

@@ -3,3 +3,4 @@ pub mod Walking
 pub mod Solved
 pub mod Turned
 pub mod Alive
+pub mod Letting

@@ -199,7 +199,7 @@ fn are_listed(
 ///
 /// How many choices there are is estimated by sorts, where these are heeded, and by heads: for each class an operator that
 /// is known to head its value, where one is known. What is said of heads is not relied on for more. With `wide` up to 127
-/// solutions may come up on the way, where no variable stands in more than eight sums; else 31. That takes some hundredths of a
+/// solutions may come up on the way, where no variable stands in more than four sums; else 31. That takes some hundredths of a
 /// second where there are too many.
 pub fn bases_from_last(
     alloc: Global,

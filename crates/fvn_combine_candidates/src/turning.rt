@@ -1,5 +1,5 @@
 //! Wheels for all sum operators, under tags.
-ghost use Rattle.std.specs.Prelude.{◌≡◌, ◌↔◌, ◌≤◌, ℕ, List, true, false, Contains, IfOk};
+ghost use Rattle.std.specs.Prelude.{◌≡◌, ◌≤◌, ℕ, List, Contains, IfOk, None};
 ghost use Rattle.std.specs.List.{AllZip};
 ghost use Rattle.fvn_terms.specs.Signature.{axioms};
 ghost use Rattle.fvn_terms.specs.Equality.{IsAssociative};
@@ -7,11 +7,10 @@ ghost use Rattle.fvn_acunify.specs.Cursor.{unbounded};
 ghost use Rattle.fvn_combine_nodes.specs.States.{IsClosed, class_of};
 ghost use Rattle.fvn_combine_leaves.specs.Readings.{AreSums, IsReading};
 ghost use Rattle.fvn_combine_admissible.specs.Listed.{tag_in};
-ghost use Rattle.fvn_combine_complete.specs.Neutral.{IsNeutral};
 ghost use Rattle.fvn_acunify_product.specs.Weight.{product};
 ghost use Rattle.fvn_acunify_product.specs.Wheels.{IsChoice, PendingChoices, choices_left, counts_of, wheel_of};
 ghost use Rattle.fvn_combine_leaves.specs.Bases.{IsBasis, AreBases};
-ghost use Rattle.fvn_combine_candidates.specs.Turning.{IsWheel, AreWheels, HasBounds, HaveBounds};
+ghost use Rattle.fvn_combine_candidates.specs.Turning.{IsFullFor, IsWheel, AreWheels, HasBounds, HaveBounds};
 
 use crate::neutral::is_neutral;
 use crate::vanishing::other_columns;
@@ -36,15 +35,26 @@ fn listed(
     reading: &Reading,
     sums: &Sums,
     mut choices: Choices,
-) -> Result<Choices, NoMemory> {
+) -> Result<Choices, NoMemory>
+    requires closed { IsClosed sig.now table.now state.now }
+    requires reading { IsReading sig.now table.now (class_of state.now) reading.now }
+    requires listed { Contains reading.now.sums sums.now }
+    requires all { choices.full ≡ None }
+    ensures basis { IfOk result (λ c. c.basis ≡ choices.basis) }
+    ensures constants { IfOk result (λ c. c.constants ≡ choices.constants) }
+    ensures may_be_zero { IfOk result (λ c. c.may_be_zero ≡ choices.may_be_zero) }
+    ensures bounds { IfOk result (λ c. c.bounds ≡ choices.bounds) }
+    ensures full { IfOk result (λ c.
+        IsFullFor sig.now table.now (class_of state.now) sums.now c.full) }
+{
     match sig.identity(sums.operator) {
-        None => {}
+        None => Ok(choices),
         Some(e) => {
             let others = other_columns(alloc, sig, table, state, reading, sums, e)?;
             choices.list_full(Seq::from_vec(others));
+            Ok(choices)
         }
     }
-    Ok(choices)
 }
 
 // The choices for a sum operator among its minimal solutions, without bounds.
@@ -69,7 +79,10 @@ fn choices_of(
 {
     let theory = theory(alloc, sig, table, state, reading, tags, sums)?;
     match choices_among(alloc, &theory, basis) {
-        Ok(choices) => listed(alloc, sig, table, state, reading, sums, choices),
+        Ok(choices) => {
+            let full = listed(alloc, sig, table, state, reading, sums, choices)?;
+            Ok(full)
+        }
         Err(_) => Err(NoMemory),
     }
 }
@@ -106,8 +119,8 @@ fn bounded(
 
 /// One wheel for each sum operator: the lists of numbers that are to come are exactly those in which
 /// each number is valid for what is asked of its operator's minimal solutions, under these tags, and
-/// takes every solution without a constant where the operator is neutral; where sorts are heeded, those alone
-/// that keep to what sorts ask.
+/// takes every solution without a constant that may stand for the operator's identity; where sorts are
+/// heeded, those alone that keep to what sorts ask.
 pub fn wheels(
     alloc: Global,
     sig: &Signature,

@@ -58,7 +58,9 @@ search B0 B1 l = B2 B3 l => few | 3 2
 search B0 f l = B1 A2 l => few | 3 2
 search B0 f k = B1 A2 k => few | 3 2";
 
-// The same over bags: which element is which is asked before solutions, so that of thirteen elements only one is it.
+// The same over bags: which element is which is asked before solutions, so that of thirteen elements only one is it. A
+// solution in which no element is stands in each choice: of four bags and four others, also inside an element, there is
+// one choice, and of two bags and an element on each side there are five, which differ in where the elements are.
 const SEARCHED_OF_BAGS: &str = "search A0 B1 t = g => few | 1 1
 search A0 B1 t = g h t => few | 3 2
 search A0 B1 t = g h i j k l m n o p q r s t t t t t t t t t t t t => few | 25 13
@@ -67,7 +69,10 @@ search A0 A1 B2 t t = A3 A4 B5 t t => few | 1 14
 search A0 A1 t = g => few | 1 0
 search A0 A1 t = B2 => few | 1 1
 search B0 B1 t = g h t => few | 1 4
-search B0 B1 t = A2 A3 t A4 t A5 t A6 t A7 t => few | 1 64";
+search B0 B1 t = A2 A3 t A4 t A5 t A6 t A7 t => few | 1 64
+search A0 B1 B2 t t = A3 B4 B5 t t => few | 1 5
+search B0 B1 B2 B3 t t t = B4 B5 B6 B7 t t t => few | 1 1
+search B0 B1 B2 B3 t t t u = B4 B5 B6 B7 t t t u => few | 1 1";
 
 // The same over two sums with different identities, where nearly every class is added by both: it is asked of none
 // whether it is an identity. First families where each size has one summand more: such a class is asked only whether it

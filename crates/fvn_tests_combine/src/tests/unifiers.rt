@@ -17,9 +17,10 @@ pub const OPERATORS: &str =
 pub const WITH_ELEMENTS: &str =
     "A B; B < A; f : -> A; g : -> A; h : A -> A; i : A A -> A; j : A A -> A [comm]; k : A A -> A [assoc comm]; l : A A -> A [assoc comm id: g]; m : A A -> A [assoc comm id: g]; n : A A -> A [assoc comm]; o : -> B";
 
-/// Elements A below bags B; the empty bag f, the elements g to s, and the sum t of bags.
+/// Elements A below bags B; the empty bag f, the elements g to s, the sum t of bags, and elements u and v of one bag and
+/// of two.
 pub const BAGS: &str =
-    "A B; A < B; f : -> B; g : -> A; h : -> A; i : -> A; j : -> A; k : -> A; l : -> A; m : -> A; n : -> A; o : -> A; p : -> A; q : -> A; r : -> A; s : -> A; t : B B -> B [assoc comm id: f]";
+    "A B; A < B; f : -> B; g : -> A; h : -> A; i : -> A; j : -> A; k : -> A; l : -> A; m : -> A; n : -> A; o : -> A; p : -> A; q : -> A; r : -> A; s : -> A; t : B B -> B [assoc comm id: f]; u : B -> A; v : B B -> A";
 
 /// One sort A; constants f, g and j, sums h and k with the identity f, and a sum i with the identity g.
 pub const RINGS: &str =
@@ -182,7 +183,8 @@ const SOLVED_WITH_ELEMENTS: &str = "4 20 A0 A1 l A2 l A3 l A4 l = A5 A6 l A7 l A
 100 200 A0 A1 l = B2 B3 l B4 l => complete 8
 100 200 A0 A1 l = B2 B3 l B4 l B5 l B6 l B7 l => complete 64";
 
-// The same over bags: an element is one summand, so that of thirteen elements only one is it.
+// The same over bags: an element is one summand, so that of thirteen elements only one is it. What no element is in may
+// be empty, so that four bags are four others in one way, also inside an element.
 const SOLVED_OF_BAGS: &str = "100 200 A0 B1 t = g => complete 1
 100 200 A0 B1 t = g h t => complete 2
 100 200 A0 B1 t = g h i t t => complete 3
@@ -190,7 +192,16 @@ const SOLVED_OF_BAGS: &str = "100 200 A0 B1 t = g => complete 1
 100 200 A0 A1 B2 t t = g h i t t => complete 6
 100 200 A0 A1 t = g => complete 0
 100 200 A0 A1 t = B2 => complete 1
-100 200 B0 B1 t = g h t => complete 4";
+100 200 B0 B1 t = g h t => complete 4
+100 200 B0 B1 t = B2 B3 t => complete 1
+100 200 A0 B1 B2 t t = A3 B4 B5 t t => complete 5
+100 200 A0 B1 B2 t t = B3 B4 B5 t t => complete 3
+100 200 B0 B1 A2 t t = B3 B4 g h t t t => complete 12
+100 200 B0 B1 t u = B2 B3 t u => complete 1
+100 200 B0 B1 B0 B1 t u t t = g B2 B3 B4 t u t t => complete 8
+100 200 B0 B1 t B0 B2 t v = B3 B4 t B3 B5 t v => complete 1
+100 200 B0 B1 B2 B3 t t t = B4 B5 B6 B7 t t t => complete 1
+100 200 B0 B1 B2 B3 t t t u = B4 B5 B6 B7 t t t u => complete 1";
 
 // The same over sums with different identities, first over two: a class that both use may be the identity of either. Then
 // over all three, where it may be the one that two of them have.

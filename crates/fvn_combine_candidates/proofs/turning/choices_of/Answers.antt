@@ -19,9 +19,9 @@ choices_among-requires c = record {
 pub returns-in-Ok-clause-asked : goal.returns-in-Ok-clause-asked
 returns-in-Ok-clause-asked c =
     let h = c.in-Ok.ensures in
-    let k = c.listed.ensures in
+    let k = c.in_ok-full-in-Ok.ensures in
     wheel_is c.args.sig.now c.args.table.now (class_of c.args.state.now) (tag_in c.args.tags.now) c.args.sums.now c.args.basis.now c.in_ok-theory.theory c.in_ok-theory.ensures.asked
-    (wheel_of c.listed.result) (k.same ∙ h.basis) (k.constants ∙ h.constants) (k.may_be_zero ∙ h.may_be_zero) k.full
+    (wheel_of c.in_ok-full-in-Ok.full) (k.basis ∙ h.basis) (k.constants ∙ h.constants) (k.may_be_zero ∙ h.may_be_zero) k.full
 
 pub returns-in-Ok-clause-bounds : goal.returns-in-Ok-clause-bounds
-returns-in-Ok-clause-bounds c = c.listed.ensures.bounds ∙ c.in-Ok.ensures.bounds
+returns-in-Ok-clause-bounds c = c.in_ok-full-in-Ok.ensures.bounds ∙ c.in-Ok.ensures.bounds
