@@ -30,10 +30,10 @@ use Rattle.fvn_combine_candidates.proofs.Zeroed.{IsMark, mark_at, zero_where}
 use Rattle.fvn_combine_candidates.proofs.Entries.{read_at, one_entry, placed_at}
 
 -- the marks of the first columns, which are 1 only where the class is known to differ from class k
-pub record AreMarksBelow (s : State) (heads : List (Option OpId)) (e : Sums) (k n : ℕ) (marks : List ℤ) : Type 0 where
-  pub sized : length marks ≡ n
-  pub marks : All (λ c. (c ≡ pos 0) ⊎ (c ≡ pos 1)) marks
-  pub apart : (j : ℕ) → j < n → get_or marks j (pos 0) ≡ pos 1 → AreKnownApart s heads e.operator k (get_or e.columns j 0)
+pub record AreMarksBelow (s : State) (heads : List (Option OpId)) (e : Sums) (k n : ℕ) (row : List ℤ) : Type 0 where
+  pub sized : length row ≡ n
+  pub marks : All (λ c. (c ≡ pos 0) ⊎ (c ≡ pos 1)) row
+  pub apart : (j : ℕ) → j < n → get_or row j (pos 0) ≡ pos 1 → AreKnownApart s heads e.operator k (get_or e.columns j 0)
 
 -- a marked column that the vector has
 abbrev HasMarked : List ℤ → List ℕ → ℕ → Type 0

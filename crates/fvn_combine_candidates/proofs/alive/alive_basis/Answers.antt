@@ -10,9 +10,9 @@ gathered-requires-clause-rows c =
     subst (λ n. All (λ (row : Row). IsMarking n row.coefficients) c.as_slice.result.now) (sym c.requires.wide)
     (subst (λ (rows : List Row). All (λ row. IsMarking (length c.args.sums.now.columns) row.coefficients) rows) (sym c.as_slice.ensures.value) c.in_ok-rows.ensures.markings)
 
-pub returns-in-Some : goal.returns-in-Some
-returns-in-Some c =
+pub returns : goal.returns
+returns c =
     let rows = c.in_ok-rows.rows.items in
     let g = subst (λ (xs : List Row). AreGathered c.args.sums.now.system xs (length xs) c.in-Some.list.items) c.as_slice.ensures.value (rw c.in-Some.is at c.in_ok-gathered.ensures) in
     subst (IsBasisBy c.args.state.now c.args.heads.now c.args.sums.now) (sym c.from_vec.ensures)
-    (basis_by c.args.state.now c.args.heads.now c.args.sums.now rows c.in-Some.list.items c.requires.wide c.in_ok-rows.ensures g (omega (arith, c.if-x.false)))
+    (basis_by c.args.state.now c.args.heads.now c.args.sums.now rows c.in-Some.list.items c.requires.wide c.in_ok-rows.ensures g (omega (arith, c.if-len-gt-LISTED_SOLUTIONS.false, c.len-in-Some.ensures, c.in-Some.list.ok.0)))

@@ -1,5 +1,5 @@
 -- The row of one more column.
-use Rattle.std.proofs.Common.{◌≡◌, ℕ, pos, ◌+◌, ◌<◌, [], ◌∷◌, ◌++◌, length, get_or, sym, ap, ◌∙◌, subst, refl, arith, All}
+use Rattle.std.proofs.Common.{◌≡◌, ℕ, ℤ, List, Contains, pos, ◌+◌, ◌<◌, [], ◌∷◌, ◌++◌, length, get_or, sym, ap, ◌∙◌, subst, refl, arith, All}
 use Rattle.std.proofs.lemmas.List.Elements.{Contains-push}
 use Rattle.fvn_combine_candidates.specs.inner.Alive.{AreRowsBelow, IsApartFrom, HasRowFor}
 use Rattle.fvn_combine_candidates.proofs.Living.{rows_start, rows_unmarked, rows_there, rows_more, covering}
@@ -11,8 +11,8 @@ loop-i-init c =
     (sym (c.in_ok-push.ensures.items ∙ ap (λ rows. rows ++ c.in_ok-copy.copy ∷ []) c.new-rows.ensures.items ∙ ap (λ row. row ∷ []) c.in_ok-copy.ensures))
     (rows_start c.args.state.now c.args.heads.now c.args.sums.now c.in_ok-first.first c.in_ok-first.ensures)
 
-pub index-as_slice-i-requires : goal.index-as_slice-i-requires
-index-as_slice-i-requires c =
+pub bounds-as_slice-i : goal.bounds-as_slice-i
+bounds-as_slice-i c =
     let same = ap length c.as_slice-columns.ensures in
     let long = c.in_ok-first.ensures.sized in
     let over = c.loop-i-test.true in
@@ -22,14 +22,14 @@ pub row_beside-requires-clause-class : goal.row_beside-requires-clause-class
 row_beside-requires-clause-class c =
     subst (λ xs. All (λ n. n < length c.args.state.now.names) xs) (sym c.as_slice-columns.ensures) c.requires.within c.loop-i.i 0 c.loop-i-test.true
 
-pub loop-i-preserved-then : goal.loop-i-preserved-then
-loop-i-preserved-then c =
-    rows_unmarked c.args.state.now c.args.heads.now c.args.sums.now c.in_ok-first.first c.in_ok-first.ensures c.loop-i.i c.loop-i.rows.items c.loop-i.invariant c.x
+pub loop-i-preserved-then-as_slice-i-eq0 : goal.loop-i-preserved-then-as_slice-i-eq0
+loop-i-preserved-then-as_slice-i-eq0 c =
+    rows_unmarked c.args.state.now c.args.heads.now c.args.sums.now c.in_ok-first.first c.in_ok-first.ensures c.loop-i.i c.loop-i.rows.items c.loop-i.invariant (subst (λ (xs : List ℤ). get_or xs c.loop-i.i (pos 0) ≡ pos 0) c.as_slice.ensures c.if-as_slice-i-eq0.true)
 
 pub loop-i-preserved-then-is_among : goal.loop-i-preserved-then-is_among
 loop-i-preserved-then-is_among c =
     rows_there c.args.state.now c.args.heads.now c.args.sums.now c.in_ok-first.first c.in_ok-first.ensures c.loop-i.i c.loop-i.rows.items c.loop-i.invariant
-    (record { row = c.in_ok-row.row; listed = c.if-is_among.ensures refl; marking = c.in_ok-row.ensures.marking; apart = c.in_ok-row.ensures.apart })
+    (record { row = c.in_ok-row.row; listed = subst (λ xs. Contains xs c.in_ok-row.row) c.as_slice-in-loop-i.ensures.value (c.if-is_among.ensures refl); marking = c.in_ok-row.ensures.marking; apart = subst (λ xs. IsApartFrom c.args.state.now c.args.heads.now c.args.sums.now (get_or xs c.loop-i.i 0) c.in_ok-row.row.coefficients) c.as_slice-columns.ensures c.in_ok-row.ensures.apart })
 
 pub loop-i-preserved : goal.loop-i-preserved
 loop-i-preserved c =
@@ -42,7 +42,7 @@ loop-i-preserved c =
     let rows = c.loop-i.rows.items ++ row ∷ [] in
     subst (AreRowsBelow s heads e first (c.loop-i.i + 1)) (sym c.in_ok-push-2.ensures.items)
     (rows_there s heads e first marking c.loop-i.i rows (rows_more s heads e first marking c.loop-i.i c.loop-i.rows.items c.loop-i.invariant row c.in_ok-row.ensures.marking)
-    (record { row = row; listed = Contains-push c.loop-i.rows.items row; marking = c.in_ok-row.ensures.marking; apart = c.in_ok-row.ensures.apart }))
+    (record { row = row; listed = Contains-push c.loop-i.rows.items row; marking = c.in_ok-row.ensures.marking; apart = subst (λ xs. IsApartFrom s heads e (get_or xs c.loop-i.i 0) row.coefficients) c.as_slice-columns.ensures c.in_ok-row.ensures.apart }))
 
 pub returns : goal.returns
 returns c =

@@ -1,5 +1,5 @@
 -- One more mark.
-use Rattle.std.proofs.Common.{ℕ, List, ◌+◌, ◌<◌, length, get_or, sym, ap, ◌∙◌, subst, refl, arith, All}
+use Rattle.std.proofs.Common.{◌≡◌, ℕ, List, ◌+◌, ◌<◌, length, get_or, sym, ap, ◌∙◌, subst, refl, arith, All}
 use Rattle.fvn_combine_candidates.specs.inner.Alive.{AreKnownApart}
 use Rattle.fvn_combine_candidates.proofs.Living.{AreMarksBelow, no_marks, one_marked, one_unmarked}
 use Rattle.fvn_combine_candidates.proofs.alive.row_beside.Goals as goal
