@@ -1,6 +1,6 @@
 -- Rows of which each solution that is alive is zero at one, and minimal solutions that are zero at rows.
-use Rattle.std.proofs.Common.{◌≡◌, ◌≢◌, ◌⊎◌, ℕ, zero, suc, ◌+◌, ◌<◌, ◌≤◌, ℤ, pos, List, [], ◌∷◌, ◌++◌, length, get_or, refl, sym, ap, ◌∙◌, subst, inl, inr, arith, All, Contains, Option, Some}
-use Rattle.std.specs.Prelude.{AllPairs, slice_get}
+use Rattle.std.proofs.Common.{◌≡◌, ◌≢◌, ◌⊎◌, ℕ, zero, suc, ◌+◌, ◌<◌, ◌≤◌, ℤ, pos, List, [], ◌∷◌, ◌++◌, length, get_or, refl, sym, ap, ◌∙◌, subst, inl, inr, arith, All, Contains, Option, None, Some, of_z, w32}
+use Rattle.std.specs.Prelude.{AllPairs, IfSome, slice_get}
 use Rattle.std.proofs.lemmas.Bool.{cases_lt}
 use Rattle.std.proofs.lemmas.List.{get_or_past, length_push, get_or_append_left, get_or_push}
 use Rattle.std.proofs.lemmas.List.Elements.{All-nil, All-cons, All-contains, All-push, Contains-append_left, Contains-get_or}
@@ -44,6 +44,13 @@ HasNoMarked row v n = (j : ℕ) → j < n → get_or row j (pos 0) ≡ pos 1 →
 
 no_mark : (c : ℤ) → c ≡ pos 0 → c ≡ pos 1 → ⊥
 no_mark c z o = let f : 0 ≡ 1 = ap above (sym z ∙ o) in omega (arith, f)
+
+-- a mark that is read as zero is none
+pub zero_read : (row : List ℤ) → All IsMark row → (i : ℕ) → of_z w32 (get_or row i (pos 0)) ≡ 0 → get_or row i (pos 0) ≡ pos 0
+zero_read row h i z = elim (mark_at row h i) [
+  | inl e ↦ e
+  | inr o ↦ let f : 1 ≡ 0 = sym (ap (of_z w32) o) ∙ z in absurd (omega (arith, f))
+]
 
 marked_part : (row : List ℤ) (v : List ℕ) → All IsMark row → (n : ℕ) → HasMarked row v n ⊎ HasNoMarked row v n
 marked_part row v h zero = inr (λ j l e. absurd (omega (arith, l)))
@@ -229,6 +236,10 @@ module _ (d : Declarations) (t : NodeTable) (s : State) (e : Sums) (assoc : IsAs
   -- all minimal solutions are all that are alive
   pub whole_alive : (basis : List Solution) → IsWholeBasis e.system basis → IsAliveBasis d t s e basis
   whole_alive basis h = record { is_basis = h.is_basis; alive = λ v m _. h.all v m }
+
+  pub whole_alive_where : (found : Option (List Solution)) → IfSome found (IsWholeBasis e.system) → IfSome found (IsAliveBasis d t s e)
+  whole_alive_where None h = tt
+  whole_alive_where (Some basis) h = whole_alive basis h
 
   module _ (heads : List (Option OpId)) (read : AreHeads d t (class_of s) heads) (within : All (λ c. c < length t.nodes) e.columns) where
     single : (v : List ℕ) → Solves e.system.columns (rows_of e.system) v → (i : ℕ) → i < length e.columns → 0 < get_or v i 0 → (g : OpId) → IsOtherHead heads e.operator (get_or e.columns i 0) g

@@ -1,8 +1,8 @@
 -- The row of one more column.
-use Rattle.std.proofs.Common.{◌≡◌, ℕ, ℤ, List, Contains, pos, ◌+◌, ◌<◌, [], ◌∷◌, ◌++◌, length, get_or, sym, ap, ◌∙◌, subst, refl, arith, All}
+use Rattle.std.proofs.Common.{◌≡◌, of_z, w32, ℕ, ℤ, List, Contains, pos, ◌+◌, ◌<◌, [], ◌∷◌, ◌++◌, length, get_or, sym, ap, ◌∙◌, subst, refl, arith, All}
 use Rattle.std.proofs.lemmas.List.Elements.{Contains-push}
 use Rattle.fvn_combine_candidates.specs.inner.Alive.{AreRowsBelow, IsApartFrom, HasRowFor}
-use Rattle.fvn_combine_candidates.proofs.Living.{rows_start, rows_unmarked, rows_there, rows_more, covering}
+use Rattle.fvn_combine_candidates.proofs.Living.{zero_read, rows_start, rows_unmarked, rows_there, rows_more, covering}
 use Rattle.fvn_combine_candidates.proofs.alive.marked_rows.Goals as goal
 
 pub loop-i-init : goal.loop-i-init
@@ -24,7 +24,7 @@ row_beside-requires-clause-class c =
 
 pub loop-i-preserved-then-as_slice-i-eq0 : goal.loop-i-preserved-then-as_slice-i-eq0
 loop-i-preserved-then-as_slice-i-eq0 c =
-    rows_unmarked c.args.state.now c.args.heads.now c.args.sums.now c.in_ok-first.first c.in_ok-first.ensures c.loop-i.i c.loop-i.rows.items c.loop-i.invariant (subst (λ (xs : List ℤ). get_or xs c.loop-i.i (pos 0) ≡ pos 0) c.as_slice.ensures c.if-as_slice-i-eq0.true)
+    rows_unmarked c.args.state.now c.args.heads.now c.args.sums.now c.in_ok-first.first c.in_ok-first.ensures c.loop-i.i c.loop-i.rows.items c.loop-i.invariant (zero_read c.in_ok-first.first.coefficients c.in_ok-first.ensures.marks c.loop-i.i (subst (λ (xs : List ℤ). of_z w32 (get_or xs c.loop-i.i (pos 0)) ≡ 0) c.as_slice.ensures c.if-as_slice-i-eq0.true))
 
 pub loop-i-preserved-then-is_among : goal.loop-i-preserved-then-is_among
 loop-i-preserved-then-is_among c =

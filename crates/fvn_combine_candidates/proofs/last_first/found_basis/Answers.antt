@@ -3,7 +3,7 @@ use Rattle.std.proofs.Common.{ℕ, ◌<◌, length, sym, subst, All}
 use Rattle.fvn_combine_nodes.proofs.Lists.{all_from}
 use Rattle.fvn_combine_nodes.specs.States.{class_of}
 use Rattle.fvn_combine_leaves.proofs.ReadOfState.{column_within}
-use Rattle.fvn_combine_candidates.proofs.Living.{whole_alive, by_heads_alive}
+use Rattle.fvn_combine_candidates.proofs.Living.{whole_alive_where, by_heads_alive}
 use Rattle.fvn_combine_candidates.proofs.last_first.found_basis.Goals as goal
 use Rattle.fvn_combine_candidates.proofs.last_first.found_basis.Goals.{After-recall_well_made}
 
@@ -24,7 +24,7 @@ alive_basis-requires-clause-wide c = c.requires.sums.is_system.wide
 pub returns-in-Some : goal.returns-in-Some
 returns-in-Some c =
     by_heads_alive c.args.sig.now c.args.table.now c.args.state.now c.args.sums.now c.requires.associative c.requires.sums c.args.reading.now.heads c.requires.heads
-    (within (goal.at.returns-in-Some c).After-recall_well_made) c.in-Some.basis (rw (c.in-Some.is, c.as_slice.ensures) at c.in_ok-alive_basis.ensures)
+    (within (goal.at.returns-in-Some c).After-recall_well_made) c.in-Some.basis (rw (c.in-Some.is, c.as_slice.ensures) at c.in_ok-basis.ensures)
 
 pub returns : goal.returns
-returns c = c.x
+returns c = whole_alive_where c.args.sig.now c.args.table.now c.args.state.now c.args.sums.now c.requires.associative c.requires.sums c.in_ok-found.found c.in_ok-found.ensures
