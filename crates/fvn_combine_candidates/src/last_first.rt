@@ -194,8 +194,9 @@ fn are_listed(
     Ok(few)
 }
 
-/// Minimal solutions of each sum operator of a reading, all that may stand for a summand among them, in the reading's order, for a state at which a system is
-/// refused; nothing where they are not found in that order, or are so many that choices among them are not listed.
+/// Minimal solutions of each sum operator of a reading, all that may stand for a summand among them, in the reading's order,
+/// for a state at which a system is refused; nothing where they are not found in that order, or are so many that choices
+/// among them are not listed.
 ///
 /// How many choices there are is estimated by sorts, where these are heeded, and by heads: for each class an operator that
 /// is known to head its value, where one is known. What is said of heads is not relied on for more. With `wide` up to 127

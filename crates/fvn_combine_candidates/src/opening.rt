@@ -130,7 +130,8 @@ pub fn bases(
 ) -> Result<Vec<Seq<Solution>>, OpenFault>
     requires { IsReading sig.now table.now (class_of state.now) reading.now }
     ensures bases { IfOk result (λ v. AreBases reading.now.sums v.items) }
-    ensures alive { IfOk result (λ v. HaveAlive sig.now table.now state.now reading.now.sums v.items) }
+    ensures alive { IfOk result (λ v.
+        HaveAlive sig.now table.now state.now reading.now.sums v.items) }
     ensures systems { IfOk result (λ v. AreSystems sig.now table.now (class_of state.now)
         (systems_of reading.now v.items)) }
     ensures as_many { IfOk result (λ v. length v.items ≡ length reading.now.sums) }
