@@ -11,7 +11,7 @@ use Rattle.fvn_base.proofs.Order.{before_else, before_trans}
 use Rattle.fvn_base.proofs.MappedLists.{mapped_member_old, mapped_member_new, mapped_member_cases}
 use Rattle.fvn_lindio.specs.declared.system.Solution.{Solution}
 use Rattle.fvn_lindio.specs.Systems.{vectors_of}
-use Rattle.fvn_lindio.specs.inner.Least.{IsPlace, StandsAt, GrowsBy, IsOrderedOf}
+use Rattle.fvn_combine_candidates.specs.inner.Placed.{IsPlace, StandsAt, GrowsBy, IsOrderedOf}
 
 module _ (xs : List (List ℕ)) (i : ℕ) (v : List ℕ) (within : i ≤ length xs) where
   put_below : (k : ℕ) (d : List ℕ) → k < i → get_or (insert xs i v) k d ≡ get_or xs k d

@@ -13,7 +13,7 @@ use Rattle.fvn_lindio.specs.declared.system.Row.{Row}
 use Rattle.fvn_lindio.specs.declared.system.System.{System}
 use Rattle.fvn_lindio.specs.declared.system.Solution.{Solution}
 use Rattle.fvn_lindio.specs.Systems.{above, IsZeroAt, Solves, IsMinimal, rows_of, vectors_of}
-use Rattle.fvn_lindio.specs.inner.Least.{GrowsBy, IsOrderedOf}
+use Rattle.fvn_combine_candidates.specs.inner.Placed.{GrowsBy, IsOrderedOf}
 use Rattle.fvn_acunify.specs.declared.limits.TheConstants.{LISTED_SOLUTIONS}
 use Rattle.fvn_flat.specs.SolvedLists.{component}
 use Rattle.fvn_combine_nodes.specs.Table.{NodeTable}

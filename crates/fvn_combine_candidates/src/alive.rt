@@ -5,7 +5,7 @@
 //! these. The row comes first, so that no more solutions come up on the way than at the columns that are left.
 ghost use Rattle.std.specs.Prelude.{◌≡◌, ◌↔◌, ◌<◌, length, All, AllPairs, Contains, IfOk, IfSome, IsTrue, OnOk};
 ghost use Rattle.fvn_lindio.specs.Systems.{IsSystem, vectors_of};
-ghost use Rattle.fvn_lindio.specs.inner.Least.{IsOrderedOf, IsPlace, StandsAt, GrowsBy};
+ghost use Rattle.fvn_combine_candidates.specs.inner.Placed.{IsOrderedOf, IsPlace, StandsAt, GrowsBy};
 ghost use Rattle.fvn_base.specs.Order.{IsBefore};
 ghost use Rattle.fvn_combine_nodes.specs.States.{IsNaming};
 ghost use Rattle.fvn_combine_candidates.specs.inner.Alive.{

@@ -3,7 +3,7 @@ use Rattle.std.proofs.Common.{◌≡◌, List, ◌+◌, length, sym, subst, arit
 use Rattle.fvn_lindio.specs.declared.system.Solution.{Solution}
 use Rattle.fvn_lindio.specs.declared.system.Row.{Row}
 use Rattle.fvn_lindio.specs.Systems.{vectors_of}
-use Rattle.fvn_lindio.specs.inner.Least.{GrowsBy}
+use Rattle.fvn_combine_candidates.specs.inner.Placed.{GrowsBy}
 use Rattle.fvn_combine_candidates.specs.inner.Alive.{IsMarking, AreZeroAt, AreGathered}
 use Rattle.fvn_combine_candidates.proofs.Entries.{of_entry}
 use Rattle.fvn_combine_candidates.proofs.Living.{gathered_start, gathered_more, gathered_ordered, gathered_all, zero_sized}

@@ -2,7 +2,7 @@
 use Rattle.std.proofs.Common.{◌≡◌, length, sym, subst, arith}
 use Rattle.std.specs.List.{All, Contains}
 use Rattle.fvn_lindio.specs.Systems.{vectors_of}
-use Rattle.fvn_lindio.specs.inner.Least.{IsOrderedOf}
+use Rattle.fvn_combine_candidates.specs.inner.Placed.{IsOrderedOf}
 use Rattle.fvn_combine_candidates.proofs.Inserted.{put_none, put_more, put_every, size_at}
 use Rattle.fvn_combine_candidates.proofs.alive.put_all.Goals as goal
 use Rattle.fvn_combine_candidates.proofs.alive.put_all.Goals.{After-solution-item}

@@ -1,7 +1,7 @@
 -- The solutions so far are in the list.
 use Rattle.std.proofs.Common.{take, Contains}
 use Rattle.fvn_lindio.specs.Systems.{vectors_of}
-use Rattle.fvn_lindio.specs.inner.Least.{GrowsBy, IsOrderedOf}
+use Rattle.fvn_combine_candidates.specs.inner.Placed.{GrowsBy, IsOrderedOf}
 use Rattle.fvn_combine_candidates.proofs.alive.put_all.Given as goal
 
 abbrev pub invariant-loop-solution : goal.invariant-loop-solution

@@ -3,7 +3,7 @@ use Rattle.std.proofs.Common.{◌≡◌, length, ap, ◌∙◌, subst, sym}
 use Rattle.std.specs.List.{All, AllPairs, insert}
 use Rattle.fvn_base.specs.Order.{IsBefore}
 use Rattle.fvn_lindio.specs.Systems.{vectors_of}
-use Rattle.fvn_lindio.specs.inner.Least.{IsPlace, StandsAt, GrowsBy}
+use Rattle.fvn_combine_candidates.specs.inner.Placed.{IsPlace, StandsAt, GrowsBy}
 use Rattle.fvn_combine_candidates.proofs.Inserted.{insert_ordered, insert_exact, ordered_more, not_false}
 use Rattle.fvn_combine_candidates.proofs.alive.put_in.Goals as goal
 use Rattle.fvn_combine_candidates.proofs.alive.put_in.Goals.{In_ok-insert}
