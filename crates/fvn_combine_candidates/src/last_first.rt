@@ -145,7 +145,8 @@ fn basis_from_last(
     Ok(found)
 }
 
-// Those that are alive, where some classes are known to differ; else all.
+// All of them, where few come up from the last row on; else those that are alive, where some classes are known to differ; else
+// all in the other orders.
 fn found_basis(
     alloc: Global,
     sig: &Signature,
@@ -164,6 +165,9 @@ fn found_basis(
 {
     let _sig = sig;
     table.recall_well_made();
+    if let Some(whole) = basis_in_order(alloc, sums, &[], SOLUTIONS_LEFT)? {
+        return Ok(Some(whole));
+    }
     if let Some(basis) = alive_basis(alloc, state, reading.heads.as_slice(), sums)? {
         return Ok(Some(basis));
     }

@@ -1,5 +1,5 @@
 -- What is alive by the heads that are read, or all.
-use Rattle.std.proofs.Common.{ℕ, ◌<◌, length, sym, subst, All}
+use Rattle.std.proofs.Common.{ℕ, ◌<◌, length, sym, subst, All, Some}
 use Rattle.fvn_combine_nodes.proofs.Lists.{all_from}
 use Rattle.fvn_combine_nodes.specs.States.{class_of}
 use Rattle.fvn_combine_leaves.proofs.ReadOfState.{column_within}
@@ -22,9 +22,12 @@ pub alive_basis-requires-clause-wide : goal.alive_basis-requires-clause-wide
 alive_basis-requires-clause-wide c = c.requires.sums.is_system.wide
 
 pub returns-in-Some : goal.returns-in-Some
-returns-in-Some c =
+returns-in-Some c = whole_alive_where c.args.sig.now c.args.table.now c.args.state.now c.args.sums.now c.requires.associative c.requires.sums (Some c.in-Some.whole) (rw c.in-Some.is at c.in_ok-whole.ensures)
+
+pub returns-in-Some-2 : goal.returns-in-Some-2
+returns-in-Some-2 c =
     by_heads_alive c.args.sig.now c.args.table.now c.args.state.now c.args.sums.now c.requires.associative c.requires.sums c.args.reading.now.heads c.requires.heads
-    (within (goal.at.returns-in-Some c).After-recall_well_made) c.in-Some.basis (rw (c.in-Some.is, c.as_slice.ensures) at c.in_ok-basis.ensures)
+    (within (goal.at.returns-in-Some-2 c).After-recall_well_made) c.in-Some-2.basis (rw (c.in-Some-2.is, c.as_slice.ensures) at c.in_ok-basis.ensures)
 
 pub returns : goal.returns
 returns c = whole_alive_where c.args.sig.now c.args.table.now c.args.state.now c.args.sums.now c.requires.associative c.requires.sums c.in_ok-found.found c.in_ok-found.ensures
