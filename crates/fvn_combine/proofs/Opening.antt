@@ -19,7 +19,7 @@ use Rattle.fvn_combine_choices.specs.Plans.{AreOfOneKind}
 use Rattle.fvn_combine_drawing.specs.CombineAdmissibleListed.{systems_of}
 use Rattle.fvn_combine_drawing.specs.CombineCompleteLaws.{ReadingsTell}
 use Rattle.fvn_combine_drawing.specs.CombineBoundsLaws.{SortedLeavesCover}
-use Rattle.fvn_combine_drawing.specs.CombineCandidatesLaws.{BasesMakeSystems, CoveringChoicesAreListed}
+use Rattle.fvn_combine_drawing.specs.CombineCandidatesLaws.{BasesMakeSystems, AliveBasesMakeAlive, CoveringChoicesAreListed}
 use Rattle.fvn_combine_drawing.specs.CombineCandidatesSharing.{AreSharedClasses}
 use Rattle.fvn_combine_drawing.specs.CombineCandidatesTags.{tag_counts}
 use Rattle.fvn_combine_drawing.specs.CombineCandidatesDeclared.sharing.SharedClass.{SharedClass}
@@ -79,13 +79,14 @@ module _ (k : Combining) (is : IsCombining k) (s : State) where
         )
 
   -- each unifier that is asked for, that the state admits and that has variables in the loose classes is covered by a choice that is to come
-  pub covers_admitted : SortedUnifiersGoWith → SortedLeavesCover → ReadingsTell → BasesMakeSystems → (o : Opened) → IsOpened k s o → ((u : Substitution) (c : Choice) → AreVariables k.declarations k.table o.loose u → IsSortedCovering k s o.reading o.bases o.labels u c → IsCoveredToCome k s o u) → (u : Substitution) → IsAdmittedBy k s u → AreVariables k.declarations k.table o.loose u → IsCoveredToCome k s o u
-  covers_admitted go_with cover tell make o opened all u h variables =
+  pub covers_admitted : SortedUnifiersGoWith → SortedLeavesCover → ReadingsTell → BasesMakeSystems → AliveBasesMakeAlive → (o : Opened) → IsOpened k s o → ((u : Substitution) (c : Choice) → AreVariables k.declarations k.table o.loose u → IsSortedCovering k s o.reading o.bases o.labels u c → IsCoveredToCome k s o u) → (u : Substitution) → IsAdmittedBy k s u → AreVariables k.declarations k.table o.loose u → IsCoveredToCome k s o u
+  covers_admitted go_with cover tell make make_alive o opened all u h variables =
       let told = tell k.declarations k.table s opened.leaf.closed o.reading opened.reading in
       let systems = make k.declarations k.table (class_of s) o.reading opened.reading o.bases opened.bases in
+      let alive = make_alive k.declarations k.table s o.reading opened.reading o.bases opened.bases opened.alive in
       let values = values_admitted k is go_with s opened.leaf.closed u h in
       let obeyed = opened.labels (value_at k.declarations u k.table.nodes) values in
-      let c = cover k.declarations is.good (problem_of k.given) is.is_given.kinds k.table is.well_made is.table_of s o.labels opened.leaf told (systems_of o.reading o.bases) systems u h.0.unifies h.1 obeyed in
+      let c = cover k.declarations is.good (problem_of k.given) is.is_given.kinds k.table is.well_made is.table_of s o.labels opened.leaf told (systems_of o.reading o.bases) systems alive u h.0.unifies h.1 obeyed in
       all u c.0 variables
       record {
         covering = c.1;

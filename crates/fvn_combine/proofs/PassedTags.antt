@@ -138,6 +138,7 @@ module _ (k : Combining) (s : State) (o : Opened) (opened : IsOpened k s o) wher
         labels = opened.labels;
         as_many = opened.as_many;
         bases = opened.bases;
+        alive = opened.alive;
         shared = opened.shared;
         counts = counts ∙ opened.counts;
         turning = λ v e. cc;

@@ -42,6 +42,7 @@ module _ (k : Combining) (is : IsCombining k) (possible : ListedChoicesArePossib
     labels = opened.labels;
     as_many = opened.as_many;
     bases = opened.bases;
+    alive = opened.alive;
     shared = opened.shared;
     counts = counts ∙ opened.counts;
     turning = λ v e. subst (IsTurning k s o.reading o.bases o.shared) (Some-injective e) is_turning;

@@ -17,7 +17,7 @@ use Rattle.fvn_combine_drawing.specs.CombineAdmissibleListed.{tag_in, systems_of
 use Rattle.fvn_combine_drawing.specs.CombineCompleteCoveringChoices.{IsCovering}
 use Rattle.fvn_combine_drawing.specs.CombineCompleteObeying.{TagsFollow}
 use Rattle.fvn_combine_drawing.specs.CombineBoundsNarrow.{KeepsBounds}
-use Rattle.fvn_combine_leaves.specs.Bases.{AreBases}
+use Rattle.fvn_combine_leaves.specs.Bases.{AreBases, HaveAlive}
 use Rattle.fvn_combine_drawing.specs.CombineCandidatesSharing.{AreSharedClasses}
 use Rattle.fvn_combine_drawing.specs.CombineCandidatesTags.{tag_counts, AreTags}
 use Rattle.fvn_combine_drawing.specs.CombineCandidatesTurning.{AreWheels}
@@ -78,8 +78,8 @@ module _ (k : Combining) (s : State) where
   abbrev pub IsCoveredToCome : Opened → Substitution → Type 0
   IsCoveredToCome o u = AreVariables k.declarations k.table o.loose u × (IsCoveredNow o u ⊎ IsCoveredLater o u)
 
-  -- what is read of the leaf and noted of its classes, its minimal solutions, its shared classes and their tags, the wheels under current
-  -- tags, and loose classes, where more general unifiers are enough
+  -- what is read of the leaf and noted of its classes, minimal solutions, of which none that is alive is left out, its shared classes and their
+  -- tags, the wheels under current tags, and loose classes, where more general unifiers are enough
   pub record IsOpened (o : Opened) : Type 0 where
     pub ready : IsReady k.declarations k.given k.first k.table s
     pub leaf : IsLeaf k.declarations k.table o.labels s
@@ -87,6 +87,7 @@ module _ (k : Combining) (s : State) where
     pub labels : TellLabels k.declarations k.table s k.sorted o.labels
     pub as_many : length o.labels ≡ length k.table.nodes
     pub bases : AreBases o.reading.sums o.bases
+    pub alive : HaveAlive k.declarations k.table s o.reading.sums o.bases
     pub shared : AreSharedClasses k.declarations k.table (class_of s) k.sorted o.shared
     pub counts : o.tags.counts ≡ tag_counts o.shared
     pub turning : (v : Turning) → o.turning ≡ Some v → IsTurning o.reading o.bases o.shared v

@@ -5,7 +5,7 @@
 //! is more general. So it is never asked for as a constant.
 ghost use Rattle.std.specs.Prelude.{◌≡◌, ◌<◌, length, IfOk, IfSome};
 ghost use Rattle.fvn_combine_nodes.specs.States.{IsClosed, class_of};
-ghost use Rattle.fvn_combine_leaves.specs.Bases.{AreBases};
+ghost use Rattle.fvn_combine_leaves.specs.Bases.{AreBases, HaveAlive};
 ghost use Rattle.fvn_combine_leaves.specs.Leaves.{IsNearLeaf};
 ghost use Rattle.fvn_combine_leaves.specs.Readings.{IsReading};
 ghost use Rattle.fvn_combine_inferring.specs.Inferred.{TellHeads, TellLabels};
@@ -120,6 +120,8 @@ pub(crate) fn labels_of(
         known.now.heads.items }
     requires sorted { known.now.sorted ≡ task.now.sorted }
     requires bases { AreBases reading.now.sums bases.now }
+    requires alive { HaveAlive task.now.declarations task.now.table state.now reading.now.sums
+        bases.now }
     ensures labels { IfOk result (λ v. TellLabels task.now.declarations task.now.table state.now
         task.now.sorted v.items) }
     ensures as_many { IfOk result (λ v. length v.items ≡ length task.now.table.nodes) }

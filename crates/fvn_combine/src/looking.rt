@@ -2,7 +2,7 @@
 ghost use Rattle.std.specs.Prelude.{◌≡◌, ◌<◌, length, IsTrue, IfOk, IfSome};
 ghost use Rattle.fvn_combine_tree.specs.Trees.{AreClosed};
 ghost use Rattle.fvn_combine_nodes.specs.States.{IsClosed, IsOpen, class_of};
-ghost use Rattle.fvn_combine_leaves.specs.Bases.{AreBases};
+ghost use Rattle.fvn_combine_leaves.specs.Bases.{AreBases, HaveAlive};
 ghost use Rattle.fvn_combine_leaves.specs.Leaves.{IsNearLeaf, IsLeaf, IsQuestion};
 ghost use Rattle.fvn_combine_leaves.specs.Readings.{IsReading};
 ghost use Rattle.fvn_combine_choices.specs.Plans.{AreOfOneKind};
@@ -19,8 +19,8 @@ use crate::task::Task;
 use fvn_base::Seq;
 use fvn_combine_choices::classes_have_one_kind;
 use fvn_combine_drawing::{
-    OpenFault, bases, bases_from_last, bases_make_systems, readings_tell, refusals_are_causes,
-    sorted_leaves_cover, tables_have_sums,
+    OpenFault, alive_bases_make_alive, bases, bases_from_last, bases_make_systems, readings_tell,
+    refusals_are_causes, sorted_leaves_cover, tables_have_sums,
 };
 use fvn_combine_inferring::{Inferred, Known, differ, infer, known_of, sorted_unifiers_go_with};
 use fvn_combine_leaves::Reading;
@@ -72,10 +72,13 @@ fn look_at_leaf(
         labels.items }
     requires as_many { length labels.items ≡ length task.now.table.nodes }
     requires bases { AreBases reading.sums bases.items }
+    requires alive { HaveAlive task.now.declarations task.now.table state.now reading.sums
+        bases.items }
     ensures { IfOk result (IsLookedAt task.now state.now) }
 {
     task.recall();
     bases_make_systems();
+    alive_bases_make_alive();
     sorted_leaves_cover();
     sorted_unifiers_go_with();
     readings_tell();
@@ -157,6 +160,8 @@ fn open_touched(
     requires reading { IsReading task.now.declarations task.now.table (class_of state.now)
         reading.now }
     requires bases { AreBases reading.now.sums bases.now }
+    requires alive { HaveAlive task.now.declarations task.now.table state.now reading.now.sums
+        bases.now }
     ensures { IfOk result (IsQuestion task.now.declarations task.now.table labels.now state.now) }
 {
     let ranks = class_ranks(task.alloc, state, task.sizes.as_slice())?;
@@ -186,6 +191,8 @@ fn look_at_bases(
         known.heads.items }
     requires sorted { known.sorted ≡ task.now.sorted }
     requires bases { AreBases reading.sums bases.items }
+    requires alive { HaveAlive task.now.declarations task.now.table state.now reading.sums
+        bases.items }
     ensures { IfOk result (IsLookedAt task.now state.now) }
 {
     task.recall();
@@ -307,7 +314,9 @@ fn turned_bases(
     requires near { IsNearLeaf task.now.declarations task.now.table state.now }
     requires reading { IsReading task.now.declarations task.now.table (class_of state.now)
         reading.now }
-    ensures { IfOk result (λ o. IfSome o (λ v. AreBases reading.now.sums v.items)) }
+    ensures bases { IfOk result (λ o. IfSome o (λ v. AreBases reading.now.sums v.items)) }
+    ensures alive { IfOk result (λ o. IfSome o (λ v. HaveAlive task.now.declarations task.now.table
+        state.now reading.now.sums v.items)) }
 {
     task.recall();
     if !effort.refused {

@@ -5,7 +5,7 @@ ghost use Rattle.fvn_combine_nodes.specs.States.{IsClosed, class_of};
 ghost use Rattle.fvn_combine_leaves.specs.Leaves.{IsLeaf};
 ghost use Rattle.fvn_combine_leaves.specs.Readings.{IsReading};
 ghost use Rattle.fvn_combine_choices.specs.Choosing.{Choice as InChoice};
-ghost use Rattle.fvn_combine_leaves.specs.Bases.{AreBases};
+ghost use Rattle.fvn_combine_leaves.specs.Bases.{AreBases, HaveAlive};
 ghost use Rattle.fvn_combine_inferring.specs.Inferred.{TellLabels};
 ghost use Rattle.fvn_combine_loose.specs.Loose.{IsLooseClass};
 ghost use Rattle.fvn_combine_loose.specs.Laws.{AreVariables};
@@ -108,6 +108,8 @@ pub(crate) fn open(
         labels.items }
     requires as_many { length labels.items ≡ length task.now.table.nodes }
     requires bases { AreBases reading.sums bases.items }
+    requires alive { HaveAlive task.now.declarations task.now.table state.now reading.sums
+        bases.items }
     ensures opened { IfOk result (IsOpened task.now state.now) }
     ensures all { IfOk result (λ o. (u : Substitution) (c : InChoice)
         → AreVariables task.now.declarations task.now.table o.loose u

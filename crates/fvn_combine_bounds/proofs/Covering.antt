@@ -4,10 +4,10 @@ use Rattle.fvn_combine_complete.specs.Laws.{UnifiersGoWith, TablesHaveSums, Valu
 use Rattle.fvn_combine_bounds.specs.Laws.{ObeyedChoicesKeepBounds, SortedLeavesCover}
 
 pub sorted_cover : UnifiersGoWith → TablesHaveSums → ValuesObeyChoices → ObeyedChoicesFall → ObeyedChoicesCover → ObeyedChoicesKeepBounds → SortedLeavesCover
-sorted_cover go_with sums obey fall cover keep d good problem kinded t made table s heads leaf told y systems u unifier admits obey_heads =
+sorted_cover go_with sums obey fall cover keep d good problem kinded t made table s heads leaf told y systems alive u unifier admits obey_heads =
     let has = sums d good.fits problem kinded t made table in
     let values = go_with d good.fits problem kinded t made table u unifier s leaf.closed admits in
-    let chosen = obey d good t made has s heads leaf told y systems (value_at d u t.nodes) values obey_heads in
+    let chosen = obey d good t made has s heads leaf told y systems alive (value_at d u t.nodes) values obey_heads in
     let c = chosen.0 in
     let ranked = fall d t made has s heads leaf told y systems (value_at d u t.nodes) values c chosen.3 in (
       c,

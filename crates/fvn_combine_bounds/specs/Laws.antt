@@ -18,6 +18,7 @@ use Rattle.fvn_combine_nodes.specs.Unifiers.{value_at, kernel}
 use Rattle.fvn_combine_nodes.specs.declared.state.State.{State}
 use Rattle.fvn_combine_leaves.specs.Leaves.{IsLeaf, IsSumOperator, Uses, IsShared}
 use Rattle.fvn_combine_complete.specs.CombineChoicesChoosing.{Systems, Choice, AreSystems, member_count}
+use Rattle.fvn_combine_complete.specs.Alive.{ListsAlive}
 use Rattle.fvn_combine_complete.specs.CoveringChoices.{IsCovering}
 use Rattle.fvn_combine_complete.specs.Neutral.{IsNeutral}
 use Rattle.fvn_combine_complete.specs.Obeyed.{AreObeying}
@@ -88,7 +89,7 @@ abbrev pub SortedLeavesCover : Type 0
 SortedLeavesCover =
     (d : Declarations) → IsGood d → (problem : Problem) → IsProblem d problem
     → (t : NodeTable) → IsWellMade t → IsTableOf d problem t
-    → (s : State) (heads : List (Option OpId)) → IsLeaf d t heads s → IsTold d t (class_of s) → (y : Systems) → AreSystems d t (class_of s) y
+    → (s : State) (heads : List (Option OpId)) → IsLeaf d t heads s → IsTold d t (class_of s) → (y : Systems) → AreSystems d t (class_of s) y → ListsAlive d t s y
     → (u : Substitution) → IsKindUnifier d problem u → Admits s (kernel d u t.nodes) → ObeyHeads d t s heads (value_at d u t.nodes)
     → (c : Choice) × IsCovering d problem t s y u c
     × (KeepsSorts d (variables_of problem) u → KeepsBounds d t (class_of s) y c)

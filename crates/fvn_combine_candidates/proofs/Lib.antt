@@ -15,3 +15,6 @@ mod Few
 mod Absorbing
 mod Letting
 mod Turned
+mod Zeroed
+mod Inserted
+mod Living

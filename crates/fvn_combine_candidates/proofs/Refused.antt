@@ -66,7 +66,7 @@ kept_system s result basis is many wide (k, inr h) =
     cc
 
 -- the first operator without minimal solutions is the fault
-pub fault_at : (sums : List Sums) (n : ℕ) (bases : List (List Solution)) (e : Sums) → n < length sums → e ≡ get_or sums n e → AreBasesBelow IsKeptBasis sums n bases → (fault : OpenFault) → IsFaultOf e fault → IsOpenFault sums fault
+pub fault_at : (sums : List Sums) (n : ℕ) (bases : List (List Solution)) (e : Sums) → n < length sums → e ≡ get_or sums n e → AreBasesBelow (λ x. IsKeptBasis x.system) sums n bases → (fault : OpenFault) → IsFaultOf e fault → IsOpenFault sums fault
 fault_at sums n bases e l at h (Basis f system) of = record {
   place = n;
   entry = e;

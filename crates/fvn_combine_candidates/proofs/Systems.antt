@@ -13,15 +13,17 @@ use Rattle.fvn_lindio.specs.declared.system.System.{System}
 use Rattle.fvn_lindio.specs.declared.system.Solution.{Solution}
 use Rattle.fvn_lindio.specs.Systems.{IsMinimal, rows_of, vectors_of}
 use Rattle.fvn_combine_nodes.specs.Table.{NodeTable}
+use Rattle.fvn_combine_nodes.specs.declared.state.State.{State}
 use Rattle.fvn_combine_systems.specs.NodeSystems.{IsNodeSystem}
-use Rattle.fvn_combine_leaves.specs.Leaves.{IsSumOperator, Uses}
+use Rattle.fvn_combine_leaves.specs.Leaves.{IsSumOperator, Uses, IsAlive}
 use Rattle.fvn_combine_leaves.specs.Readings.{AreSums, IsReading}
 use Rattle.fvn_combine_leaves.specs.declared.reading.Sums.{Sums}
 use Rattle.fvn_combine_leaves.specs.declared.reading.Reading.{Reading}
 use Rattle.fvn_combine_choices.specs.Choosing.{AreSystems}
 use Rattle.fvn_combine_admissible.specs.Listed.{at_operator, empty_system, systems_of}
 use Rattle.fvn_combine_admissible.proofs.Listing.{at_place}
-use Rattle.fvn_combine_leaves.specs.Bases.{IsBasis, AreBases}
+use Rattle.fvn_combine_complete.specs.Alive.{ListsAlive}
+use Rattle.fvn_combine_leaves.specs.Bases.{IsBasis, AreBases, HaveAlive}
 use Rattle.fvn_combine_candidates.proofs.Entries.{entry_at, read_at, listed_at, placed_at}
 
 -- where an operator stands in a reading
@@ -37,7 +39,7 @@ ordered_distinct vs ordered i j d l m same = before_irrefl (get_or vs i d) (subs
 
 -- all vectors of a basis have a component for each column
 pub basis_long : (s : System) (basis : List Solution) → IsBasis s basis → (n : ℕ) → s.columns ≡ n → All (λ v. length v ≡ n) (vectors_of basis)
-basis_long s basis is n wide = All-weaker (Contains (vectors_of basis)) (λ v. length v ≡ n) (λ v m. ((is.exact v).0 m).solves.sized ∙ wide) (vectors_of basis) (All-contains_itself (vectors_of basis))
+basis_long s basis is n wide = All-weaker (Contains (vectors_of basis)) (λ v. length v ≡ n) (λ v m. (is.minimal v m).solves.sized ∙ wide) (vectors_of basis) (All-contains_itself (vectors_of basis))
 
 -- the minimal solutions that are read at a place
 pub basis_is : (bases : List (List Solution)) (i : ℕ) (basis b : List Solution) → i < length bases → b ≡ get_or bases i b → basis ≡ b → basis ≡ slice_index_or bases i []
@@ -97,11 +99,21 @@ module _ (d : Declarations) (t : NodeTable) (class : ℕ → ℕ) (r : Reading) 
         subst (λ cs. IsNodeSystem t class f cs (y.system f)) (sym (columns_for f p))
         (subst (IsNodeSystem t class f p.entry.columns) (sym (system_for f p))
         (subst (λ g. IsNodeSystem t class g p.entry.columns p.entry.system) p.operator (sums_at p.place p.entry p.is).is_system));
-    exact = λ f op v.
+    minimal = λ f op v.
         let p = placed f op in
-        subst (λ (s : System). Contains ((systems_of r bases).basis f) v ↔ IsMinimal s.columns (rows_of s) v) (sym (system_for f p))
-        (subst (λ vs. Contains vs v ↔ IsMinimal p.entry.system.columns (rows_of p.entry.system) v) (sym (basis_for f p bases are.as_many)) ((are.each p.place p.entry p.is).exact v));
+        subst (λ (s : System). Contains ((systems_of r bases).basis f) v → IsMinimal s.columns (rows_of s) v) (sym (system_for f p))
+        (subst (λ vs. Contains vs v → IsMinimal p.entry.system.columns (rows_of p.entry.system) v) (sym (basis_for f p bases are.as_many)) ((are.each p.place p.entry p.is).minimal v));
     distinct = λ f op.
         let p = placed f op in
         subst (AllPairs ◌≢◌) (sym (basis_for f p bases are.as_many)) (ordered_distinct (vectors_of (slice_index_or bases p.place [])) (are.each p.place p.entry p.is).ordered);
   }
+
+  -- that no alive one is left out is so of the systems
+  pub lists_alive : (s : State) (bases : List (List Solution)) → AreBases r.sums bases → HaveAlive d t s r.sums bases → ListsAlive d t s (systems_of r bases)
+  lists_alive s bases are have f op v minimal alive =
+      let p = placed f op in
+      let y = systems_of r bases in
+      subst (λ vs. Contains vs v) (sym (basis_for f p bases are.as_many))
+      (have p.place p.entry p.is v
+      (subst (λ (x : System). IsMinimal x.columns (rows_of x) v) (system_for f p) minimal)
+      (subst (λ g. IsAlive d t s g p.entry.columns v) (sym p.operator) (subst (λ cs. IsAlive d t s f cs v) (columns_for f p) alive)))

@@ -24,7 +24,7 @@ more_turned front xs i d l =
     append_assoc front (take i (reverse xs)) (get_or xs (length xs - 1 - i) d ∷ []) ∙ ap (λ ys. front ++ ys) (sym (one_turned xs i d l))
 
 -- what stands in a list stands in it turned round
-contains_reverse : {A : Type 0} (xs : List A) (x : A) → Contains xs x → Contains (reverse xs) x
+pub contains_reverse : {A : Type 0} (xs : List A) (x : A) → Contains xs x → Contains (reverse xs) x
 contains_reverse xs x c =
     let l = c.1 in
     let k = length xs - 1 - c.0 in
@@ -33,7 +33,7 @@ contains_reverse xs x c =
     (k, omega (arith, l, long), get_or-reverse xs k x (omega (arith, l)) ∙ ap (λ n. get_or xs n x) back ∙ c.2)
 
 -- what all have of one list, all have of another that holds no others
-all_over : {A : Type 0} (P : A → Type 0) (xs ys : List A) → ((x : A) → Contains ys x → Contains xs x) → All P xs → All P ys
+pub all_over : {A : Type 0} (P : A → Type 0) (xs ys : List A) → ((x : A) → Contains ys x → Contains xs x) → All P xs → All P ys
 all_over P xs ys from all = All-weaker (Contains ys) P (λ x m. All-contains P xs x all (from x m)) ys (All-contains_itself ys)
 
 -- rows that hold the same ones have the same solutions
@@ -53,11 +53,11 @@ minimal_over columns xs ys same v h = record {
 }
 
 -- what stands in a list turned round stands in it
-contains_back : {A : Type 0} (xs : List A) (x : A) → Contains (reverse xs) x → Contains xs x
+pub contains_back : {A : Type 0} (xs : List A) (x : A) → Contains (reverse xs) x → Contains xs x
 contains_back xs x c = subst (λ ys. Contains ys x) (reverse-reverse xs) (contains_reverse (reverse xs) x c)
 
 -- the coefficients of rows that stand in a list stand in its own
-coefficients_over : (xs ys : List Row) → ((row : Row) → Contains xs row → Contains ys row) → (r : List ℤ) → Contains (coefficients_of xs) r → Contains (coefficients_of ys) r
+pub coefficients_over : (xs ys : List Row) → ((row : Row) → Contains xs row → Contains ys row) → (r : List ℤ) → Contains (coefficients_of xs) r → Contains (coefficients_of ys) r
 coefficients_over xs ys from r c =
     let m = map_contains (λ (row : Row). row.coefficients) xs r c in
     subst (Contains (coefficients_of ys)) m.1.1 (contains_map (λ (row : Row). row.coefficients) ys m.0 (from m.0 m.1.0))

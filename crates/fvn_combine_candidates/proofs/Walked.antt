@@ -27,43 +27,53 @@ use Rattle.fvn_combine_leaves.proofs.ReadOfState.{column_within}
 use Rattle.fvn_combine_admissible.proofs.Listing.{operators_differ}
 use Rattle.fvn_acunify_product.specs.Wheels.{Wheel}
 use Rattle.fvn_combine_candidates.specs.declared.sharing.SharedClass.{SharedClass}
-use Rattle.fvn_combine_leaves.specs.Bases.{IsBasis, AreBases}
+use Rattle.fvn_combine_leaves.specs.Bases.{AreBases, HaveAlive}
 use Rattle.fvn_combine_candidates.specs.Sharing.{classes_of, MayBeSum, IsSharedClass, AreSharedClasses}
 use Rattle.fvn_combine_candidates.specs.Turning.{IsFullFor, IsWheel, AreWheels, HaveBounds}
+use Rattle.fvn_combine_candidates.specs.inner.Alive.{IsAliveBasis}
 use Rattle.fvn_combine_candidates.specs.inner.Walking.{IsKeptBasis, AreBasesBelow, AreKeptBases, IsBoundedWheel, AreWheelsBelow, IsUserBelow, AreUsersBelow, AreSharedBelow}
 use Rattle.fvn_combine_candidates.proofs.Entries.{entry_at, read_at, one_entry}
 use Rattle.fvn_combine_candidates.proofs.Systems.{user_placed}
 
 -- one more operator's minimal solutions
-pub more_bases : (P : System → List Solution → Type 0) (sums : List Sums) (n : ℕ) (bases : List (List Solution)) (e : Sums) (b : List Solution) → n < length sums → e ≡ get_or sums n e → AreBasesBelow P sums n bases → P e.system b → AreBasesBelow P sums (n + 1) (bases ++ b ∷ [])
+pub more_bases : (P : Sums → List Solution → Type 0) (sums : List Sums) (n : ℕ) (bases : List (List Solution)) (e : Sums) (b : List Solution) → n < length sums → e ≡ get_or sums n e → AreBasesBelow P sums n bases → P e b → AreBasesBelow P sums (n + 1) (bases ++ b ∷ [])
 more_bases P sums n bases e b l at h here = record {
   as_many = length_push bases b ∙ ap (λ k. k + 1) h.as_many;
   each = λ i x m is. elim (cases_lt i n) [
     | inl below ↦
         let as_many = h.as_many in
-        subst (P x.system) (sym (get_or_append_left bases (b ∷ []) [] i (omega (arith, below, as_many)))) (h.each i x below is)
+        subst (P x) (sym (get_or_append_left bases (b ∷ []) [] i (omega (arith, below, as_many)))) (h.each i x below is)
     | inr above ↦
         let same : i ≡ n = omega (arith, m, above) in
         let one : e ≡ x = one_entry sums n e x (read_at sums n e l at) (subst (λ k. slice_get sums k ≡ Some x) same is) in
-        subst (P x.system) (sym (get_or_push bases b [] i (h.as_many ∙ sym same))) (subst (λ (z : Sums). P z.system b) one here)
+        subst (P x) (sym (get_or_push bases b [] i (h.as_many ∙ sym same))) (subst (λ z. P z b) one here)
   ];
 }
 
-pub all_bases : (sums : List Sums) (n : ℕ) (bases : List (List Solution)) → length sums ≤ n → n ≤ length sums → AreBasesBelow IsBasis sums n bases → AreBases sums bases
-all_bases sums n bases l m h = record {
-  as_many = let k = h.as_many in omega (arith, l, m, k);
-  each = λ i e is. h.each i e (let k = slice_get_within sums i e is in omega (arith, k, l)) is;
-}
+module _ (d : Declarations) (t : NodeTable) (s : State) (sums : List Sums) (n : ℕ) (bases : List (List Solution)) (l : length sums ≤ n) (m : n ≤ length sums) (h : AreBasesBelow (IsAliveBasis d t s) sums n bases) where
+  -- those of all operators
+  pub all_bases : AreBases sums bases
+  all_bases = record {
+    as_many = let k = h.as_many in omega (arith, l, m, k);
+    each = λ i e is. (h.each i e (let k = slice_get_within sums i e is in omega (arith, k, l)) is).is_basis;
+  }
+
+  -- none is left out that is alive
+  pub all_alive : HaveAlive d t s sums bases
+  all_alive i e is v minimal alive = (h.each i e (let k = slice_get_within sums i e is in omega (arith, k, l)) is).alive v minimal alive
 
 -- the same of operators whose systems are not refused
-pub all_kept : (sums : List Sums) (n : ℕ) (bases : List (List Solution)) → length sums ≤ n → n ≤ length sums → AreBasesBelow IsKeptBasis sums n bases → AreKeptBases sums bases
-all_kept sums n bases l m h = subst (λ k. AreBasesBelow IsKeptBasis sums k bases) (omega (arith, l, m)) h
+pub all_kept : (sums : List Sums) (n : ℕ) (bases : List (List Solution)) → length sums ≤ n → n ≤ length sums → AreBasesBelow (λ e. IsKeptBasis e.system) sums n bases → AreKeptBases sums bases
+all_kept sums n bases l m h = subst (λ k. AreBasesBelow (λ e. IsKeptBasis e.system) sums k bases) (omega (arith, l, m)) h
 
 pub kept_are_bases : (sums : List Sums) (bases : List (List Solution)) → AreKeptBases sums bases → AreBases sums bases
 kept_are_bases sums bases h = record {
   as_many = h.as_many;
-  each = λ i e is. (h.each i e (slice_get_within sums i e is) is).is_basis;
+  each = λ i e is. (h.each i e (slice_get_within sums i e is) is).whole.is_basis;
 }
+
+pub kept_are_alive : (d : Declarations) (t : NodeTable) (s : State) (sums : List Sums) (bases : List (List Solution)) → AreKeptBases sums bases → HaveAlive d t s sums bases
+kept_are_alive d t s sums bases h i e is v minimal alive = (h.each i e (slice_get_within sums i e is) is).whole.all v minimal
 
 pub kept_are_few : (sums : List Sums) (bases : List (List Solution)) → AreKeptBases sums bases → All (λ basis. length basis ≤ MINIMAL_SOLUTIONS) bases
 kept_are_few sums bases h k d l =

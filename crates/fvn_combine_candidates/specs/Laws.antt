@@ -18,12 +18,13 @@ use Rattle.fvn_combine_nodes.specs.Classes.{IsNodePartition}
 use Rattle.fvn_combine_nodes.specs.States.{Admits, IsClosed, class_of}
 use Rattle.fvn_combine_nodes.specs.Unifiers.{value_at, kernel}
 use Rattle.fvn_combine_nodes.specs.declared.state.State.{State}
-use Rattle.fvn_combine_leaves.specs.Bases.{AreBases}
+use Rattle.fvn_combine_leaves.specs.Bases.{AreBases, HaveAlive}
 use Rattle.fvn_combine_leaves.specs.Leaves.{IsLeaf}
 use Rattle.fvn_combine_leaves.specs.Readings.{IsReading}
 use Rattle.fvn_combine_leaves.specs.declared.reading.Reading.{Reading}
 use Rattle.fvn_combine_choices.specs.Choosing.{Systems, Choice, AreSystems, IsPossible}
 use Rattle.fvn_combine_admissible.specs.Listed.{systems_of, choice_of, tag_in}
+use Rattle.fvn_combine_complete.specs.Alive.{ListsAlive}
 use Rattle.fvn_combine_complete.specs.CoveringChoices.{IsCovering}
 use Rattle.fvn_combine_complete.specs.Full.{IsFull}
 use Rattle.fvn_combine_complete.specs.Obeying.{ObeyHeads}
@@ -45,6 +46,12 @@ abbrev pub BasesMakeSystems : Type 0
 BasesMakeSystems =
     (d : Declarations) (t : NodeTable) (class : ℕ → ℕ) (r : Reading) → IsReading d t class r
     → (bases : List (List Solution)) → AreBases r.sums bases → AreSystems d t class (systems_of r bases)
+
+-- where none that is alive is left out of the lists, none is of the systems
+abbrev pub AliveBasesMakeAlive : Type 0
+AliveBasesMakeAlive =
+    (d : Declarations) (t : NodeTable) (s : State) (r : Reading) → IsReading d t (class_of s) r → (bases : List (List Solution)) → AreBases r.sums bases
+    → HaveAlive d t s r.sums bases → ListsAlive d t s (systems_of r bases)
 
 -- a system that is refused at a partition of a given problem's nodes is why a solver ends
 abbrev pub RefusalsAreCauses : Type 0
@@ -89,7 +96,7 @@ CoveringChoicesAreListed =
 abbrev pub ListsCover : Type 0
 ListsCover =
     (d : Declarations) → IsGood d → (problem : Problem) → IsProblem d problem → (t : NodeTable) → IsWellMade t → IsTableOf d problem t
-    → (s : State) (heads : List (Option OpId)) → IsLeaf d t heads s → (r : Reading) → IsReading d t (class_of s) r → (bases : List (List Solution)) → AreBases r.sums bases
+    → (s : State) (heads : List (Option OpId)) → IsLeaf d t heads s → (r : Reading) → IsReading d t (class_of s) r → (bases : List (List Solution)) → AreBases r.sums bases → HaveAlive d t s r.sums bases
     → (sorted : Bool) (shared : List SharedClass) → AreSharedClasses d t (class_of s) sorted shared → (u : Substitution) → IsKindUnifier d problem u → Admits s (kernel d u t.nodes) → ObeyHeads d t s heads (value_at d u t.nodes)
     → (sorted ≡ true → KeepsSorts d (variables_of problem) u)
     → (options : List ℕ) × (numbers : List ℕ) × AllZip IsOption (tag_counts shared) options

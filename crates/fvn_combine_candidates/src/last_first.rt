@@ -9,10 +9,12 @@ ghost use Rattle.fvn_terms.specs.Signature.{axioms};
 ghost use Rattle.fvn_terms.specs.Equality.{IsAssociative};
 ghost use Rattle.fvn_lindio.specs.Systems.{IsSystem};
 ghost use Rattle.fvn_combine_nodes.specs.States.{IsClosed, class_of};
-ghost use Rattle.fvn_combine_leaves.specs.Bases.{IsBasis, AreBases};
-ghost use Rattle.fvn_combine_leaves.specs.Readings.{AreSums, IsReading};
+ghost use Rattle.fvn_combine_leaves.specs.Bases.{AreBases, HaveAlive};
+ghost use Rattle.fvn_combine_leaves.specs.Readings.{AreSums, AreHeads, IsReading};
+ghost use Rattle.fvn_combine_candidates.specs.inner.Alive.{IsWholeBasis, IsAliveBasis};
 ghost use Rattle.fvn_combine_candidates.specs.inner.Turned.{IsTurned};
 
+use crate::alive::alive_basis;
 use crate::defining::{copied_left, rows_left};
 use crate::once::{HeadedSums, are_choices_few, are_uses_few, heeded_bounds};
 use fvn_acunify::limits::LISTED_SOLUTIONS;
@@ -40,7 +42,11 @@ pub(crate) fn copied_row(alloc: Global, row: &Row) -> Result<Row, NoMemory>
 }
 
 // These rows, and after them the others from the last to the first, in memory of their own.
-fn turned_rows(alloc: Global, first: Vec<Row>, rows: &[Row]) -> Result<Vec<Row>, NoMemory>
+pub(crate) fn turned_rows(
+    alloc: Global,
+    first: Vec<Row>,
+    rows: &[Row],
+) -> Result<Vec<Row>, NoMemory>
     ensures { IfOk result (λ v. v.items ≡ first.items ++ reverse rows.now) }
 {
     let mut turned = first;
@@ -102,7 +108,7 @@ fn basis_in_order(
 ) -> Result<Option<Seq<Solution>>, NoMemory>
     requires system { IsSystem sums.now.system }
     requires most { most ≤ LISTED_SOLUTIONS }
-    ensures { IfOk result (λ o. IfSome o (IsBasis sums.now.system)) }
+    ensures { IfOk result (λ o. IfSome o (IsWholeBasis sums.now.system)) }
 {
     let turned = turned_system(alloc, &sums.system, left)?;
     match basis(alloc, &turned, most) {
@@ -121,7 +127,7 @@ fn basis_from_last(
     wide: bool,
 ) -> Result<Option<Seq<Solution>>, NoMemory>
     requires { IsSystem sums.now.system }
-    ensures { IfOk result (λ o. IfSome o (IsBasis sums.now.system)) }
+    ensures { IfOk result (λ o. IfSome o (IsWholeBasis sums.now.system)) }
 {
     let most = if wide {
         LISTED_SOLUTIONS
@@ -139,8 +145,38 @@ fn basis_from_last(
     Ok(found)
 }
 
-// The same, where choices among them are not too many.
-fn listed_basis(
+// All of them, where few come up from the last row on; else those that are alive, where some classes are known to differ; else
+// all in the other orders.
+fn found_basis(
+    alloc: Global,
+    sig: &Signature,
+    table: &Table,
+    state: &State,
+    reading: &Reading,
+    sums: &Sums,
+    wide: bool,
+) -> Result<Option<Seq<Solution>>, NoMemory>
+    requires associative { IsAssociative (axioms sig.now sums.now.operator) }
+    requires closed { IsClosed sig.now table.now state.now }
+    requires sums { AreSums sig.now table.now (class_of state.now) sums.now }
+    requires heads { AreHeads sig.now table.now (class_of state.now) reading.now.heads }
+    ensures { IfOk result (λ o. IfSome o
+        (IsAliveBasis sig.now table.now state.now sums.now)) }
+{
+    let _sig = sig;
+    table.recall_well_made();
+    if let Some(whole) = basis_in_order(alloc, sums, &[], SOLUTIONS_LEFT)? {
+        return Ok(Some(whole));
+    }
+    if let Some(basis) = alive_basis(alloc, state, reading.heads.as_slice(), sums)? {
+        return Ok(Some(basis));
+    }
+    let found = basis_from_last(alloc, sums, wide)?;
+    Ok(found)
+}
+
+// Whether choices among these solutions are not too many.
+fn are_listed(
     alloc: Global,
     sig: &Signature,
     table: &Table,
@@ -148,31 +184,23 @@ fn listed_basis(
     headed: HeadedSums,
     sums: &Sums,
     sorted: bool,
-    wide: bool,
-) -> Result<Option<Seq<Solution>>, NoMemory>
+    basis: &[Solution],
+) -> Result<bool, NoMemory>
     requires associative { IsAssociative (axioms sig.now sums.now.operator) }
     requires closed { IsClosed sig.now table.now state.now }
     requires sums { AreSums sig.now table.now (class_of state.now) sums.now }
-    ensures { IfOk result (λ o. IfSome o (IsBasis sums.now.system)) }
 {
-    match basis_from_last(alloc, sums, wide && are_uses_few(headed, sums))? {
-        None => Ok(None),
-        Some(basis) => {
-            if basis.len() <= MINIMAL_SOLUTIONS {
-                return Ok(Some(basis));
-            }
-            let bounds = heeded_bounds(alloc, sig, table, state, sums, sorted)?;
-            let few = are_choices_few(alloc, sig, headed, sums, &bounds, basis.as_slice())?;
-            if !few {
-                return Ok(None);
-            }
-            Ok(Some(basis))
-        }
+    if basis.len() <= MINIMAL_SOLUTIONS {
+        return Ok(true);
     }
+    let bounds = heeded_bounds(alloc, sig, table, state, sums, sorted)?;
+    let few = are_choices_few(alloc, sig, headed, sums, &bounds, basis)?;
+    Ok(few)
 }
 
-/// All minimal solutions of each sum operator of a reading, in the reading's order, for a state at which a system is
-/// refused; nothing where they are not found in that order, or are so many that choices among them are not listed.
+/// Minimal solutions of each sum operator of a reading, all that may stand for a summand among them, in the reading's order,
+/// for a state at which a system is refused; nothing where they are not found in that order, or are so many that choices
+/// among them are not listed.
 ///
 /// How many choices there are is estimated by sorts, where these are heeded, and by heads: for each class an operator that
 /// is known to head its value, where one is known. What is said of heads is not relied on for more. With `wide` up to 127
@@ -190,7 +218,9 @@ pub fn bases_from_last(
 ) -> Result<Option<Vec<Seq<Solution>>>, NoMemory>
     requires closed { IsClosed sig.now table.now state.now }
     requires reading { IsReading sig.now table.now (class_of state.now) reading.now }
-    ensures { IfOk result (λ o. IfSome o (λ v. AreBases reading.now.sums v.items)) }
+    ensures bases { IfOk result (λ o. IfSome o (λ v. AreBases reading.now.sums v.items)) }
+    ensures alive { IfOk result (λ o. IfSome o (λ v.
+        HaveAlive sig.now table.now state.now reading.now.sums v.items)) }
 {
     let sums = reading.sums.as_slice();
     let headed = HeadedSums {
@@ -199,9 +229,17 @@ pub fn bases_from_last(
     };
     let mut bases = Vec::new(alloc);
     for i in 0..sums.len() {
-        match listed_basis(alloc, sig, table, state, headed, &sums[i], sorted, wide)? {
+        let entry = &sums[i];
+        let hard = wide && are_uses_few(headed, entry);
+        match found_basis(alloc, sig, table, state, reading, entry, hard)? {
             None => return Ok(None),
-            Some(basis) => bases.push(basis)?,
+            Some(basis) => {
+                let solutions = basis.as_slice();
+                if !are_listed(alloc, sig, table, state, headed, entry, sorted, solutions)? {
+                    return Ok(None);
+                }
+                bases.push(basis)?;
+            }
         }
     }
     Ok(Some(bases))

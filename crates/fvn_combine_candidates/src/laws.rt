@@ -2,6 +2,7 @@
 ghost use Rattle.fvn_combine_candidates.specs.Laws.{
   SumOperatorsAreFew,
   BasesMakeSystems,
+  AliveBasesMakeAlive,
   RefusalsAreCauses,
   ListedChoicesArePossible,
   SortedChoicesAreWithin,
@@ -23,6 +24,11 @@ pub fn sum_operators_are_few()
 /// The minimal solutions of all sum operators go with their systems.
 pub fn bases_make_systems()
     ensures { BasesMakeSystems }
+{}
+
+/// Where none that is alive is left out of the lists, none is of the systems.
+pub fn alive_bases_make_alive()
+    ensures { AliveBasesMakeAlive }
 {}
 
 /// A system that is refused at a partition is why a solver ends.

@@ -2,6 +2,7 @@
 #![tactic(auto)]
 
 mod aliases;
+mod alive;
 mod defining;
 mod last_first;
 mod laws;
@@ -19,8 +20,9 @@ pub use fvn_combine_bounds::sorted_leaves_cover;
 pub use fvn_combine_complete::{readings_tell, tables_have_sums};
 pub use last_first::bases_from_last;
 pub use laws::{
-    bases_make_systems, covering_choices_are_listed, listed_choices_are_possible, lists_cover,
-    refusals_are_causes, sorted_choices_are_within, sum_operators_are_few,
+    alive_bases_make_alive, bases_make_systems, covering_choices_are_listed,
+    listed_choices_are_possible, lists_cover, refusals_are_causes, sorted_choices_are_within,
+    sum_operators_are_few,
 };
 pub use neutral::is_neutral;
 pub use opening::{OpenFault, bases};

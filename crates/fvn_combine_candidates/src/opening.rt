@@ -4,7 +4,7 @@ ghost use Rattle.fvn_base.specs.declared.limits.TheConstants.{MINIMAL_SOLUTIONS}
 ghost use Rattle.fvn_lindio.specs.Systems.{IsSystem};
 ghost use Rattle.fvn_flat.specs.Solving.{IsRefused};
 ghost use Rattle.fvn_combine_nodes.specs.States.{class_of};
-ghost use Rattle.fvn_combine_leaves.specs.Bases.{AreBases};
+ghost use Rattle.fvn_combine_leaves.specs.Bases.{AreBases, HaveAlive};
 ghost use Rattle.fvn_combine_leaves.specs.Readings.{IsReading};
 ghost use Rattle.fvn_combine_choices.specs.Choosing.{AreSystems};
 ghost use Rattle.fvn_combine_admissible.specs.Listed.{systems_of};
@@ -129,7 +129,9 @@ pub fn bases(
     solved: &mut SolvedSystems,
 ) -> Result<Vec<Seq<Solution>>, OpenFault>
     requires { IsReading sig.now table.now (class_of state.now) reading.now }
-    ensures exact { IfOk result (λ v. AreBases reading.now.sums v.items) }
+    ensures bases { IfOk result (λ v. AreBases reading.now.sums v.items) }
+    ensures alive { IfOk result (λ v.
+        HaveAlive sig.now table.now state.now reading.now.sums v.items) }
     ensures systems { IfOk result (λ v. AreSystems sig.now table.now (class_of state.now)
         (systems_of reading.now v.items)) }
     ensures as_many { IfOk result (λ v. length v.items ≡ length reading.now.sums) }

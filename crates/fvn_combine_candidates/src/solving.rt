@@ -57,7 +57,7 @@ fn are_same(xs: &[i32], ys: &[i32]) -> bool
 }
 
 // Whether both rows have the same coefficients.
-fn is_same_row(x: &Row, y: &Row) -> bool
+pub(crate) fn is_same_row(x: &Row, y: &Row) -> bool
     ensures { IsTrue result → (x.now ≡ y.now) }
 {
     are_same(x.coefficients.as_slice(), y.coefficients.as_slice())
@@ -102,7 +102,7 @@ fn basis_among<'a>(list: &'a [SolvedSystem], system: &System) -> Option<&'a [Sol
 }
 
 // The same solution, in memory of its own.
-fn copied_solution(alloc: Global, solution: &Solution) -> Result<Solution, NoMemory>
+pub(crate) fn copied_solution(alloc: Global, solution: &Solution) -> Result<Solution, NoMemory>
     ensures { IfOk result (λ s. s ≡ solution.now) }
 {
     let parts = Vec::from_slice(alloc, solution.parts.as_slice())?;

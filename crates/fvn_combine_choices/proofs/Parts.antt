@@ -47,7 +47,7 @@ module _ {d : Declarations} {given : Pairs} {first : ℕ} {t : NodeTable} {s : S
   taken_part v m = map_contains (λ q. q.solution) (plan.parts f) v (subst (λ l. Contains l v) (sym (h.plan_by.solutions f sum)) m)
 
   pub taken_minimal : (v : List ℕ) → Contains (taken y c f) v → IsMinimal (y.system f).columns (rows_of (y.system f)) v
-  taken_minimal v m = ((h.systems.exact f sum v).0 (chosen_listed (c.number f) (y.basis f) v m))
+  taken_minimal v m = h.systems.minimal f sum v (chosen_listed (c.number f) (y.basis f) v m)
 
   pub part_minimal : (p : Part) → Contains (plan.parts f) p → IsMinimal (y.system f).columns (rows_of (y.system f)) p.solution
   part_minimal p m = taken_minimal p.solution (part_taken p m)

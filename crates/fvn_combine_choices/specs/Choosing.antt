@@ -1,5 +1,5 @@
 -- Choices at a leaf: a tag for each shared class, and minimal solutions for each sum operator.
-use Rattle.std.specs.Prelude.{◌≡◌, ◌≢◌, ◌↔◌, ℕ, ◌<◌, ◌≤◌, ◌^◌, List, length, sum_by, Option, Some, AllPairs, Contains}
+use Rattle.std.specs.Prelude.{◌≡◌, ◌≢◌, ℕ, ◌<◌, ◌≤◌, ◌^◌, List, length, sum_by, Option, Some, AllPairs, Contains}
 use Rattle.fvn_terms.specs.declared.plain.OpId.{OpId}
 use Rattle.fvn_terms.specs.declared.declarations.Declarations.{Declarations}
 use Rattle.fvn_terms.specs.Signature.{axioms}
@@ -32,10 +32,10 @@ abbrev pub member_count : Systems → Choice → OpId → ℕ → ℕ
 member_count y c f k = sum_by (λ v. component (y.columns f) v k) (taken y c f)
 
 module _ (d : Declarations) (t : NodeTable) (class : ℕ → ℕ) where
-  -- the systems are those of the sum operators, with exactly their minimal solutions, each once
+  -- the systems are those of the sum operators, with minimal solutions of them, each once
   pub record AreSystems (y : Systems) : Type 0 where
     pub is_system : (f : OpId) → IsSumOperator d t f → IsNodeSystem t class f (y.columns f) (y.system f)
-    pub exact : (f : OpId) → IsSumOperator d t f → (v : List ℕ) → Contains (y.basis f) v ↔ IsMinimal (y.system f).columns (rows_of (y.system f)) v
+    pub minimal : (f : OpId) → IsSumOperator d t f → (v : List ℕ) → Contains (y.basis f) v → IsMinimal (y.system f).columns (rows_of (y.system f)) v
     pub distinct : (f : OpId) → IsSumOperator d t f → AllPairs ◌≢◌ (y.basis f)
 
   module _ (y : Systems) (c : Choice) where

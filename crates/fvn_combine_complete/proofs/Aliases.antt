@@ -1,6 +1,6 @@
 -- The summands of values as pieces that are laid out, and no shared class that is a sum of a single class.
 use Rattle.std.proofs.Common.{◌≡◌, ℕ, ◌<◌, ◌≤◌, true, List, [], length, get_or, sym, ap, ◌∙◌, inl, inr, arith, All, Contains}
-use Rattle.std.specs.Prelude.{Bool, ◌↔◌}
+use Rattle.std.specs.Prelude.{Bool}
 use Rattle.std.proofs.lemmas.Bool.{cases_lt}
 use Rattle.std.proofs.lemmas.List.Elements.{All-contains_itself, All-weaker}
 use Rattle.fvn_terms.specs.declared.plain.OpId.{OpId}
@@ -21,9 +21,9 @@ use Rattle.fvn_combine_complete.proofs.Laying.{laid_is_counted, one_laid}
 same_length : (l m : List FlatTerm) → SameCounts l m → length l ≡ length m
 same_length l m h = sym (length_sort l) ∙ ap length (sort_same_counts l m h) ∙ length_sort m
 
-module _ (d : Declarations) (f : OpId) (values : ℕ → FlatTerm) (columns : List ℕ) (system : System) (basis : List (List ℕ)) (exact : (v : List ℕ) → Contains basis v ↔ IsMinimal system.columns (rows_of system) v) (constants : List ℕ) (may_be_zero : List Bool) (ch : IsChosen d f values columns system basis constants may_be_zero) where
+module _ (d : Declarations) (f : OpId) (values : ℕ → FlatTerm) (columns : List ℕ) (system : System) (basis : List (List ℕ)) (minimal : (v : List ℕ) → Contains basis v → IsMinimal system.columns (rows_of system) v) (constants : List ℕ) (may_be_zero : List Bool) (ch : IsChosen d f values columns system basis constants may_be_zero) where
   sized : All (λ v. length v ≡ system.columns) basis
-  sized = All-weaker (Contains basis) (λ v. length v ≡ system.columns) (λ v c. ((exact v).0 c).solves.sized) basis (All-contains_itself basis)
+  sized = All-weaker (Contains basis) (λ v. length v ≡ system.columns) (λ v c. (minimal v c).solves.sized) basis (All-contains_itself basis)
 
   -- the summands of the value of a used column are the pieces that are laid out there
   pub laid_out_are : (j : ℕ) → j < length columns → (IsUnused (rows_of system) j → ⊥) → SameCounts (parts d f (values (get_or columns j 0))) (laid_out j ch.pieces basis)

@@ -1,6 +1,6 @@
 -- Minimal solutions that values choose are acceptable, and the values are made of their pieces.
 use Rattle.std.proofs.Common.{◌≡◌, ◌⊎◌, ℕ, zero, suc, ◌+◌, ◌<◌, ◌≤◌, ◌^◌, true, List, [], ◌∷◌, length, map, get_or, sym, ap, ◌∙◌, subst, inl, inr, arith, All, Contains, Option, Some, pos, slice_get, sum_by}
-use Rattle.std.specs.Prelude.{Bool, ◌↔◌}
+use Rattle.std.specs.Prelude.{Bool}
 use Rattle.std.proofs.lemmas.Bool.{cases_eq, or_cases}
 use Rattle.std.proofs.lemmas.List.{get_or-map, get_or_default}
 use Rattle.std.proofs.lemmas.List.Sums.{sum_by-cons}
@@ -24,10 +24,11 @@ use Rattle.fvn_combine_systems.proofs.Weighing.{zero_row}
 use Rattle.fvn_combine_systems.proofs.Zeroes.{zero_told}
 use Rattle.fvn_combine_supports.specs.Laws.{MadeUpByTaken}
 use Rattle.fvn_combine_supports.specs.Pieces.{has_some, number_of, taken as with_pieces}
-use Rattle.fvn_combine_leaves.specs.Leaves.{IsLeaf, IsSumOperator, Uses, IsShared}
+use Rattle.fvn_combine_leaves.specs.Leaves.{IsLeaf, IsSumOperator, Uses, IsShared, IsAlive}
 use Rattle.fvn_combine_choices.specs.Binding.{IsBound, IsConstant, IsRequired, AreAsked}
 use Rattle.fvn_combine_choices.specs.Choosing.{Systems, Choice, AreSystems, AreTakenTogether, IsAcceptable, taken, member_count}
 use Rattle.fvn_combine_choices.proofs.Columns.{one_of_sum, chosen_listed}
+use Rattle.fvn_combine_complete.specs.Alive.{ListsAlive}
 use Rattle.fvn_combine_complete.specs.Laws.{IsChosen, NoAliases}
 use Rattle.fvn_combine_complete.specs.LaidOut.{laid_for}
 use Rattle.fvn_combine_choices.specs.Tables.{HasSums}
@@ -43,7 +44,7 @@ use Rattle.fvn_combine_complete.proofs.Taken.{contains_counted, laid_counts, sum
 use Rattle.fvn_combine_complete.proofs.Touching.{touched_none, bare_is}
 use Rattle.fvn_combine_complete.proofs.TwoSummands.{shared_two}
 use Rattle.fvn_combine_complete.proofs.VanishingTold.{neutral_vanishes}
-use Rattle.fvn_combine_complete.proofs.Values.{bound_used, may_be, constant_not_noted, constants_differ, alike_live}
+use Rattle.fvn_combine_complete.proofs.Values.{bound_used, may_be, constant_not_noted, constants_differ, alike_live, single_constant}
 
 -- some component of a vector that is not zero
 some_component : (v : List ℕ) → 0 < sum_by (λ a. a) v → (j : ℕ) × (j < length v) × (0 < get_or v j 0)
@@ -62,7 +63,7 @@ counts_add g a b (v ∷ vs) h =
     let q = sum_by-cons b v vs in
     omega (arith, first, rest, n, p, q)
 
-module _ (d : Declarations) (t : NodeTable) (made : IsWellMade t) (has : HasSums d t) (s : State) {heads : List (Option OpId)} (leaf : IsLeaf d t heads s) (told : IsTold d t (class_of s)) (values : ℕ → FlatTerm) (go_with : GoWith d t s values) (obey_heads : ObeyHeads d t s heads values) (y : Systems) (systems : AreSystems d t (class_of s) y) (c : Choice) (obey : ObeyTags d t (class_of s) c.tag values) (follow : TagsFollow d t (class_of s) c.tag values heads)
+module _ (d : Declarations) (t : NodeTable) (made : IsWellMade t) (has : HasSums d t) (s : State) {heads : List (Option OpId)} (leaf : IsLeaf d t heads s) (told : IsTold d t (class_of s)) (values : ℕ → FlatTerm) (go_with : GoWith d t s values) (obey_heads : ObeyHeads d t s heads values) (y : Systems) (systems : AreSystems d t (class_of s) y) (alive : ListsAlive d t s y) (c : Choice) (obey : ObeyTags d t (class_of s) c.tag values) (follow : TagsFollow d t (class_of s) c.tag values heads)
     (f : OpId) (sum : IsSumOperator d t f) (constants : List ℕ) (may_be_zero : List Bool) (are_asked : AreAsked d t (class_of s) c.tag f (y.columns f) constants may_be_zero) (ch : IsChosen d f values (y.columns f) (y.system f) (y.basis f) constants may_be_zero) (also : List ℕ → Bool) (marks : List Bool) (are : AreMarks also marks ch.pieces (y.basis f)) (number : c.number f ≡ number_by marks)
     (vanishes : (v : List ℕ) → also v ≡ true → MayVanish d t (class_of s) f (y.columns f) v) (bare : (v : List ℕ) → also v ≡ true → touched constants v ≡ 0) (passes : (v : List ℕ) → MayVanish d t (class_of s) f (y.columns f) v → touched constants v ≡ 0 → also v ≡ true) (law : MadeUpByTaken) where
   abbrev class : ℕ → ℕ
@@ -71,11 +72,11 @@ module _ (d : Declarations) (t : NodeTable) (made : IsWellMade t) (has : HasSums
   is_node_system : IsNodeSystem t class f (y.columns f) (y.system f)
   is_node_system = systems.is_system f sum
 
-  exact : (v : List ℕ) → Contains (y.basis f) v ↔ IsMinimal (y.system f).columns (rows_of (y.system f)) v
-  exact = systems.exact f sum
+  minimal_in : (v : List ℕ) → Contains (y.basis f) v → IsMinimal (y.system f).columns (rows_of (y.system f)) v
+  minimal_in = systems.minimal f sum
 
   sized : All (λ v. length v ≡ (y.system f).columns) (y.basis f)
-  sized i v l = ((exact (get_or (y.basis f) i v)).0 (Contains-get_or (y.basis f) i v l)).solves.sized
+  sized i v l = (minimal_in (get_or (y.basis f) i v) (Contains-get_or (y.basis f) i v l)).solves.sized
 
   taken_is : taken y c f ≡ marked marks (y.basis f)
   taken_is = ap (λ n. chosen n (y.basis f)) number ∙ chosen_marked marks (y.basis f) (marks_long also marks ch.pieces (y.basis f) are)
@@ -106,7 +107,7 @@ module _ (d : Declarations) (t : NodeTable) (made : IsWellMade t) (has : HasSums
   made_for k u q =
       let a = at k u in
       ap (λ n. count q (parts d f (values n))) (sym a.of)
-      ∙ laid_out_are d f values (y.columns f) (y.system f) (y.basis f) exact constants may_be_zero ch a.column a.within (used_column k u) q
+      ∙ laid_out_are d f values (y.columns f) (y.system f) (y.basis f) minimal_in constants may_be_zero ch a.column a.within (used_column k u) q
       ∙ ap (count q) (laid_for_is also (y.columns f) a.column k a.component_is marks ch.pieces (y.basis f) are)
       ∙ ap (λ vs. count q (laid_for (y.columns f) k vs (marked marks ch.pieces))) (sym taken_is)
 
@@ -146,7 +147,7 @@ module _ (d : Declarations) (t : NodeTable) (made : IsWellMade t) (has : HasSums
     v = get_or (y.basis f) (from i l).place []
 
     minimal : IsMinimal (y.system f).columns (rows_of (y.system f)) v
-    minimal = (exact v).0 (Contains-get_or (y.basis f) (from i l).place [] (from i l).within)
+    minimal = minimal_in v (Contains-get_or (y.basis f) (from i l).place [] (from i l).within)
 
     summand_at : (j : ℕ) → j < length v → 0 < get_or v j 0 → IsSummand d t class values f q
     summand_at j m p =
@@ -217,7 +218,8 @@ module _ (d : Declarations) (t : NodeTable) (made : IsWellMade t) (has : HasSums
       let kept = carried t class f one.columns (y.columns f) one.system (y.system f) one.is is_node_system one.solution in
       let minimal = minimal_carried t class f one.columns (y.columns f) one.system (y.system f) one.is is_node_system one.solution one.minimal in
       let none = (bare_is d t class c.tag f (y.columns f) is_node_system.distinct (λ j m. (is_node_system.exact j).1 m.used.column) constants may_be_zero are_asked w).1 (λ j m. kept j ∙ one.free j m) in
-      let among : Contains (taken y c f) w = subst (λ vs. Contains vs w) (sym taken_is) (passing_marked also marks ch.pieces (y.basis f) are w ((exact w).1 minimal) (passes w (neutral_vanishes d t class f neutral (y.columns f) w) none)) in
+      let still : IsAlive d t s f (y.columns f) w = (λ j l n here there left right apart. let z = kept j ∙ one.free j (single_constant d t made has s leaf told values go_with c.tag obey f j here) in omega (arith, z, left)) in
+      let among : Contains (taken y c f) w = subst (λ vs. Contains vs w) (sym taken_is) (passing_marked also marks ch.pieces (y.basis f) are w (alive f sum w minimal still) (passes w (neutral_vanishes d t class f neutral (y.columns f) w) none)) in
       let much = one_of_sum (λ v. component (y.columns f) v z) (taken y c f) w among in
       let has = one.has in
       let same = kept z in
@@ -230,7 +232,7 @@ module _ (d : Declarations) (t : NodeTable) (made : IsWellMade t) (has : HasSums
   -- a solution has the class of a sum as often as the classes of the two that it adds
   adds_up : (i a b : ℕ) → IsOver t.nodes i f (a ∷ b ∷ []) → (v : List ℕ) → Contains (taken y c f) v → component (y.columns f) v (class i) ≡ component (y.columns f) v (class a) + component (y.columns f) v (class b)
   adds_up i a b over v among =
-      let minimal = (exact v).0 (chosen_listed (c.number f) (y.basis f) v among) in
+      let minimal = minimal_in v (chosen_listed (c.number f) (y.basis f) v among) in
       let row = row_at t class f (y.columns f) in
       let listed = listed_sum t f i (a ∷ b ∷ []) (has.pairs i f (a ∷ b ∷ []) over sum.associative).1 over in
       let zero_rows = subst (All (IsZeroAt v)) is_node_system.rows minimal.solves.zero_rows in
@@ -270,7 +272,7 @@ module _ (d : Declarations) (t : NodeTable) (made : IsWellMade t) (has : HasSums
       elim (shared_two d t made has s leaf told values go_with c.tag obey f k shared b (omega (arith, some))) [
         | inl two ↦ (
             let same_length = ap (λ n. length (parts d f (values n))) a.of in
-            let count = law d f values (y.columns f) (y.system f) (y.basis f) exact constants may_be_zero ch r.place a.column e.column r.within (has_pieces m.0 l m.1 h (omega (arith, place_right, q))) a.within (used_column k u)
+            let count = law d f values (y.columns f) (y.system f) (y.basis f) minimal_in constants may_be_zero ch r.place a.column e.column r.within (has_pieces m.0 l m.1 h (omega (arith, place_right, q))) a.within (used_column k u)
             ((are_asked.are_constant e.column).1 (e.within, subst (IsConstant d t class c.tag f) (sym e.of) h)) (omega (arith, two, same_length)) (omega (arith, left, p)) (omega (arith, right, q)) in
             let sums = counted k u in
             let few = pieces_sum a.column in
@@ -299,7 +301,7 @@ module _ (d : Declarations) (t : NodeTable) (made : IsWellMade t) (has : HasSums
         let alike = alike_taken m.0 together.solution m.1 is in
         let r = from m.0 m.1 in
         let v_is : get_or (y.basis f) r.place [] ≡ together.solution = sym (solution_from m.0 m.1) ∙ is in
-        let minimal = (exact together.solution).0 (subst (Contains (y.basis f)) v_is (Contains-get_or (y.basis f) r.place [] r.within)) in
+        let minimal = minimal_in together.solution (subst (Contains (y.basis f)) v_is (Contains-get_or (y.basis f) r.place [] r.within)) in
         absurd (constants_differ d t made has s leaf told values go_with c.tag obey f k l hk hl n
         (leaf.constants f k l (may_be d t class told c.tag f k hk) (may_be d t class told c.tag f l hl)
         (constant_not_noted d t made has s leaf told values go_with c.tag obey obey_heads follow f k hk) (constant_not_noted d t made has s leaf told values go_with c.tag obey obey_heads follow f l hl)

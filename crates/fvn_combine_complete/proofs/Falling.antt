@@ -23,14 +23,14 @@ use Rattle.fvn_combine_leaves.specs.Leaves.{IsLeaf, IsSumOperator, IsSolid, Uses
 use Rattle.fvn_combine_choices.specs.Binding.{IsBound, solid, alone, tagged, IsConstant}
 use Rattle.fvn_combine_choices.specs.Choosing.{Systems, Choice, AreSystems, AreTakenTogether, argument, summand, Falls, taken}
 use Rattle.fvn_combine_choices.specs.Tables.{HasSums}
-use Rattle.fvn_combine_complete.specs.Obeying.{IsTold, GoWith, IsSumOrIdentityOf, IsTakenAsSum}
+use Rattle.fvn_combine_complete.specs.Obeying.{IsTold, GoWith, IsSumOrIdentityOf, HasOneValue, IsTakenAsSum}
 use Rattle.fvn_combine_complete.specs.Obeyed.{AreObeying}
 use Rattle.fvn_combine_nodes.proofs.Heading.{build_free, build_commutative}
 use Rattle.fvn_combine_choices.proofs.Columns.{chosen_listed}
 use Rattle.fvn_combine_complete.proofs.Asked.{sum_or_identity_told}
 use Rattle.fvn_combine_complete.proofs.Taken.{laid_counts, contains_counted}
 use Rattle.fvn_combine_complete.proofs.TwoSummands.{shared_two, solid_two}
-use Rattle.fvn_combine_complete.proofs.Values.{bound_used, constant_why}
+use Rattle.fvn_combine_complete.proofs.Values.{bound_used, constant_why, single_constant}
 
 pub each_at : {A : Type 0} (P : A → Type 0) (l : List A) (x : A) → AllByRecursion P l → Contains l x → P x
 each_at P [] x h c = absurd (contains_none x c)
@@ -214,22 +214,36 @@ module _ (d : Declarations) (t : NodeTable) (made : IsWellMade t) (has : HasSums
       contains_counted (values l) (parts d f (values k)) (omega (arith, counted, same))
 
   -- a solution that is taken is minimal
-  taken_touched : (f : OpId) → IsSumOperator d t f → (k l : ℕ) → AreTakenTogether d t class y c f k l → AreTouched d t class f k l
+  abbrev taken_touched : (f : OpId) → IsSumOperator d t f → (k l : ℕ) → AreTakenTogether d t class y c f k l → AreTouched d t class f k l
   taken_touched f sum k l together = record {
     columns = y.columns f;
     system = y.system f;
     is = systems.is_system f sum;
     solution = together.solution;
-    minimal = (systems.exact f sum together.solution).0 (chosen_listed (c.number f) (y.basis f) together.solution together.among);
+    minimal = systems.minimal f sum together.solution (chosen_listed (c.number f) (y.basis f) together.solution together.among);
     left = together.left;
     right = together.right;
   }
+
+  -- the single summands of a solution that is taken have one value, that of its piece
+  one_value_taken : (f : OpId) → IsSumOperator d t f → (k l : ℕ) (together : AreTakenTogether d t class y c f k l) → HasOneValue d t class c.tag values f (y.columns f) together.solution
+  one_value_taken f sum k l together a b one other left right =
+      let m = obeying.made_of f sum in
+      let i = together.among.0 in
+      let within = together.among.1 in
+      let v_is : get_or (taken y c f) i [] ≡ together.solution = get_or_default (taken y c f) i [] together.solution within ∙ together.among.2 in
+      let has_one = ap (λ v. component (y.columns f) v a) v_is in
+      let has_other = ap (λ v. component (y.columns f) v b) v_is in
+      let first = m.alone i a within (single_constant d t made has s leaf told values go_with c.tag obeying.tags f a one) (omega (arith, has_one, left)) in
+      let second = m.alone i b within (single_constant d t made has s leaf told values go_with c.tag obeying.tags f b other) (omega (arith, has_other, right)) in
+      let lists : values a ∷ [] ≡ values b ∷ [] = sym first ∙ second in
+      cc
 
   -- a constant of a class that is taken as a sum, and has its value, is not taken as a sum
   constant_untaken : (f : OpId) → IsSumOperator d t f → (k l : ℕ) → IsTakenAsSum d t class c.tag values f k → IsConstant d t class c.tag f l → AreTakenTogether d t class y c f k l → values l ≡ values k → alias l ≡ 0
   constant_untaken f sum k l as_sum h together same = elim (constant_why d t class told c.tag f l h) [
     | inl p ↦ solid_alias p.0 l p.2
-    | inr shared ↦ untaken_alias l shared (λ g e none. as_sum.differ l g h shared e none (taken_touched f sum k l together) same)
+    | inr shared ↦ untaken_alias l shared (λ g e none. as_sum.differ l g h shared e none (taken_touched f sum k l together) (one_value_taken f sum k l together) same)
   ]
 
   falls_to_summand : (f : OpId) → IsSumOperator d t f → (k l : ℕ) → IsBound d t class c.tag f k → IsConstant d t class c.tag f l → AreTakenTogether d t class y c f k l → Contains (parts d f (values k)) (values l) → rank l < rank k

@@ -1,8 +1,10 @@
 -- Lemmas on the values of classes at a leaf.
 mod Heads
 mod Identities
+mod Singles
 mod Values
 mod Meeting
+mod Below
 mod Supporting
 mod Telling
 mod Tagging

@@ -1,6 +1,6 @@
 -- What is counted of values that go with a leaf meets what is asked of a choice.
 use Rattle.std.proofs.Common.{◌≡◌, ◌≢◌, ℕ, ◌<◌, List, [], ◌∷◌, length, get_or, sym, ap, ◌∙◌, subst, inl, inr, arith, Contains, Option, slice_get}
-use Rattle.std.specs.Prelude.{Bool, pos, ◌↔◌}
+use Rattle.std.specs.Prelude.{Bool, pos}
 use Rattle.std.proofs.lemmas.Bool.{cases_order}
 use Rattle.std.proofs.lemmas.List.{get_or-map, get_or_default}
 use Rattle.std.proofs.lemmas.List.Elements.{All-contains}
@@ -58,7 +58,7 @@ module _ (law : CountsSolve) (d : Declarations) (t : NodeTable) (made : IsWellMa
     ]
   ]
 
-  module _ (basis : List (List ℕ)) (exact : (v : List ℕ) → Contains basis v ↔ IsMinimal system.columns (rows_of system) v) (constants : List ℕ) (may_be_zero : List Bool) (asked : AreAsked d t (class_of s) tag f columns constants may_be_zero) where
+  module _ (basis : List (List ℕ)) (minimal : (v : List ℕ) → Contains basis v → IsMinimal system.columns (rows_of system) v) (constants : List ℕ) (may_be_zero : List Bool) (asked : AreAsked d t (class_of s) tag f columns constants may_be_zero) where
     -- constants that a vector has have one value, where the flat forms of its constant columns are one
     alike_values : (v : List ℕ) → AreAlike constants v (λ j. values (get_or columns j 0)) → (k l : ℕ) → IsConstant d t (class_of s) tag f k → IsConstant d t (class_of s) tag f l → 0 < component columns v k → 0 < component columns v l → values k ≡ values l
     alike_values v alike k l hk hl left right =
@@ -103,7 +103,7 @@ module _ (law : CountsSolve) (d : Declarations) (t : NodeTable) (made : IsWellMa
                 constants_differ d t made has s leaf told values go_with tag obey f k l rc.1 re.1 (columns_apart c e ne rc.0 re.0)
                 (leaf.constants f k l (may_be d t (class_of s) told tag f k rc.1) (may_be d t (class_of s) told tag f l re.1)
                 (constant_not_noted d t made has s leaf told values go_with tag obey obey_heads follow f k rc.1) (constant_not_noted d t made has s leaf told values go_with tag obey obey_heads follow f l re.1)
-                (record { columns = columns; system = system; is = is; solution = v; minimal = (exact v).0 b; left = left; right = right })
+                (record { columns = columns; system = system; is = is; solution = v; minimal = minimal v b; left = left; right = right })
                 (alike_live d t made has s leaf told values go_with tag obey follow f columns v (alike_values v alike)))
                 (alike c e m n p q);
             filled = λ j z.
@@ -116,6 +116,6 @@ module _ (law : CountsSolve) (d : Declarations) (t : NodeTable) (made : IsWellMa
         }
 
 pub values_meet : (law : CountsSolve) (d : Declarations) (t : NodeTable) → IsWellMade t → HasSums d t → (s : State) (heads : List (Option OpId)) → IsLeaf d t heads s → IsTold d t (class_of s) → (values : ℕ → FlatTerm) → GoWith d t s values → ObeyHeads d t s heads values → (tag : ℕ → Option OpId) → ObeyTags d t (class_of s) tag values → TagsFollow d t (class_of s) tag values heads →
-    (f : OpId) → IsSumOperator d t f → (columns : List ℕ) (system : System) → IsNodeSystem t (class_of s) f columns system → (basis : List (List ℕ)) → ((v : List ℕ) → Contains basis v ↔ IsMinimal system.columns (rows_of system) v) →
+    (f : OpId) → IsSumOperator d t f → (columns : List ℕ) (system : System) → IsNodeSystem t (class_of s) f columns system → (basis : List (List ℕ)) → ((v : List ℕ) → Contains basis v → IsMinimal system.columns (rows_of system) v) →
     (constants : List ℕ) (may_be_zero : List Bool) → AreAsked d t (class_of s) tag f columns constants may_be_zero → CountsMeet d f values columns system basis constants may_be_zero
-values_meet law d t made has s heads leaf told values go_with obey_heads tag obey follow f sum columns system is basis exact constants may_be_zero asked = counts_meet law d t made has s leaf told values go_with obey_heads tag obey follow f sum columns system is basis exact constants may_be_zero asked
+values_meet law d t made has s heads leaf told values go_with obey_heads tag obey follow f sum columns system is basis minimal constants may_be_zero asked = counts_meet law d t made has s leaf told values go_with obey_heads tag obey follow f sum columns system is basis minimal constants may_be_zero asked

@@ -14,6 +14,7 @@ use Rattle.fvn_combine_nodes.specs.declared.state.State.{State}
 use Rattle.fvn_combine_supports.specs.Laws.{MadeUpByTaken}
 use Rattle.fvn_combine_leaves.specs.Leaves.{IsLeaf, IsSumOperator}
 use Rattle.fvn_combine_choices.specs.Choosing.{Systems, Choice, AreSystems, IsAcceptable, IsPossible}
+use Rattle.fvn_combine_complete.specs.Alive.{ListsAlive}
 use Rattle.fvn_combine_complete.specs.Laws.{ValuesChoose, NoAliases, IsChosen}
 use Rattle.fvn_combine_choices.specs.Tables.{HasSums}
 use Rattle.fvn_combine_complete.specs.Obeying.{IsTold, GoWith, ObeyHeads, TagsFollow}
@@ -27,7 +28,7 @@ use Rattle.fvn_combine_complete.proofs.VanishingTold.{vanishing_told}
 use Rattle.fvn_combine_complete.proofs.Touching.{bare_is}
 use Rattle.fvn_combine_complete.proofs.Tagging.{RightTags, right_tags}
 
-module _ (choose : ValuesChoose) (aliases : NoAliases) (law : MadeUpByTaken) (d : Declarations) (good : IsGood d) (t : NodeTable) (made : IsWellMade t) (has : HasSums d t) (s : State) (heads : List (Option OpId)) (leaf : IsLeaf d t heads s) (told : IsTold d t (class_of s)) (y : Systems) (systems : AreSystems d t (class_of s) y) (values : ℕ → FlatTerm) (go_with : GoWith d t s values) (obey_heads : ObeyHeads d t s heads values) where
+module _ (choose : ValuesChoose) (aliases : NoAliases) (law : MadeUpByTaken) (d : Declarations) (good : IsGood d) (t : NodeTable) (made : IsWellMade t) (has : HasSums d t) (s : State) (heads : List (Option OpId)) (leaf : IsLeaf d t heads s) (told : IsTold d t (class_of s)) (y : Systems) (systems : AreSystems d t (class_of s) y) (alive : ListsAlive d t s y) (values : ℕ → FlatTerm) (go_with : GoWith d t s values) (obey_heads : ObeyHeads d t s heads values) where
   abbrev class : ℕ → ℕ
   class = class_of s
 
@@ -43,7 +44,7 @@ module _ (choose : ValuesChoose) (aliases : NoAliases) (law : MadeUpByTaken) (d 
 
   chosen_for : (f : OpId) (sum : IsSumOperator d t f) → IsChosen d f values (y.columns f) (y.system f) (y.basis f) (asked_for f sum).constants (asked_for f sum).may_be_zero
   chosen_for f sum =
-      choose d t made has s heads leaf told values go_with obey_heads tag tags.obey tags.follow f sum (y.columns f) (y.system f) (systems.is_system f sum) (y.basis f) (systems.exact f sum)
+      choose d t made has s heads leaf told values go_with obey_heads tag tags.obey tags.follow f sum (y.columns f) (y.system f) (systems.is_system f sum) (y.basis f) (systems.minimal f sum) (alive f sum)
       (asked_for f sum).constants (asked_for f sum).may_be_zero (asked_for f sum).are_asked
 
   -- solutions without a constant that may stand for the identity are taken with or without pieces
@@ -98,13 +99,13 @@ module _ (choose : ValuesChoose) (aliases : NoAliases) (law : MadeUpByTaken) (d 
 
   accepted : (f : OpId) → IsSumOperator d t f → (o : Decided (IsSumOperator d t f)) → sum_told d t f ≡ o → IsAcceptable d t class y choice f
   accepted f sum (inl h) e =
-      acceptable d t made has s leaf told values go_with obey_heads y systems choice tags.obey tags.follow f h (asked_for f h).constants (asked_for f h).may_be_zero (asked_for f h).are_asked (chosen_for f h) (also f h) (marks_for f h) (marks_are f h) (ap (number_in f) e) (also_vanishes f h) (also_bare f h) (also_passes f h) law aliases
+      acceptable d t made has s leaf told values go_with obey_heads y systems alive choice tags.obey tags.follow f h (asked_for f h).constants (asked_for f h).may_be_zero (asked_for f h).are_asked (chosen_for f h) (also f h) (marks_for f h) (marks_are f h) (ap (number_in f) e) (also_vanishes f h) (also_bare f h) (also_passes f h) law aliases
   accepted f sum (inr n) e = absurd (n sum)
 
   made_up : (f : OpId) → IsSumOperator d t f → (o : Decided (IsSumOperator d t f)) → sum_told d t f ≡ o → AreMadeOf d t class y choice values f (pieces_in f (sum_told d t f))
   made_up f sum (inl h) e =
       subst (AreMadeOf d t class y choice values f) (sym (ap (pieces_in f) e))
-      (made_of d t made has s leaf told values go_with obey_heads y systems choice tags.obey tags.follow f h (asked_for f h).constants (asked_for f h).may_be_zero (asked_for f h).are_asked (chosen_for f h) (also f h) (marks_for f h) (marks_are f h) (ap (number_in f) e) (also_vanishes f h) (also_bare f h) (also_passes f h) law)
+      (made_of d t made has s leaf told values go_with obey_heads y systems alive choice tags.obey tags.follow f h (asked_for f h).constants (asked_for f h).may_be_zero (asked_for f h).are_asked (chosen_for f h) (also f h) (marks_for f h) (marks_are f h) (ap (number_in f) e) (also_vanishes f h) (also_bare f h) (also_passes f h) law)
   made_up f sum (inr n) e = absurd (n sum)
 
   -- every solution without a constant that may stand for the identity is taken

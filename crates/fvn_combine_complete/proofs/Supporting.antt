@@ -1,6 +1,6 @@
 -- Values that go with a leaf choose minimal solutions, with pieces.
 use Rattle.std.proofs.Common.{◌≡◌, ℕ, ◌<◌, List, [], ◌∷◌, length, replicate, get_or, refl, sym, ap, ◌∙◌, subst, inl, inr, arith, All, Contains}
-use Rattle.std.specs.Prelude.{Bool, ◌↔◌}
+use Rattle.std.specs.Prelude.{Bool}
 use Rattle.std.specs.List.{flat_map}
 use Rattle.std.proofs.lemmas.Bool.{cases_eq, false_from_ne_true}
 use Rattle.std.proofs.lemmas.List.{same_lists, length-replicate, get_or-replicate, get_or_default}
@@ -14,6 +14,7 @@ use Rattle.fvn_forms.specs.InOrder.{one_if, count}
 use Rattle.fvn_forms.specs.Canon.{parts}
 use Rattle.fvn_forms.proofs.Order.{same_flat_is}
 use Rattle.fvn_lindio.specs.declared.system.System.{System}
+use Rattle.fvn_lindio.specs.Vectors.{IsAtOrBelow}
 use Rattle.fvn_lindio.specs.Systems.{IsMinimal, rows_of}
 use Rattle.fvn_combine_nodes.proofs.Lists.{contains_flat_map}
 use Rattle.fvn_combine_supports.specs.Laws.{CountsAreMadeUp, PiecesChoose}
@@ -56,9 +57,10 @@ module _ (d : Declarations) (f : OpId) (values : ℕ → FlatTerm) (columns : Li
             ∙ count_none q (parts d f (values (get_or columns j 0))) (λ c. out (contains_flat_map (λ k. parts d f (values k)) columns (get_or columns j 0) q (Contains-get_or columns j 0 l) c))
       ]
 
-  pub choose : CountsAreMadeUp → PiecesChoose → ((v : List ℕ) → Contains basis v ↔ IsMinimal system.columns (rows_of system) v) → IsChosen d f values columns system basis constants may_be_zero
-  choose made_up chooses exact =
-      let sized : All (λ v. length v ≡ system.columns) basis = All-weaker (Contains basis) (λ v. length v ≡ system.columns) (λ v c. ((exact v).0 c).solves.sized) basis (All-contains_itself basis) in
-      let r = made_up system.columns (rows_of system) basis exact meet.counted meet.solve listed nothing in
+  pub choose : CountsAreMadeUp → PiecesChoose → ((v : List ℕ) → Contains basis v → IsMinimal system.columns (rows_of system) v)
+      → ((q : FlatTerm) (v : List ℕ) → IsMinimal system.columns (rows_of system) v → IsAtOrBelow v (meet.counted q) → Contains basis v) → IsChosen d f values columns system basis constants may_be_zero
+  choose made_up chooses minimal among =
+      let sized : All (λ v. length v ≡ system.columns) basis = All-weaker (Contains basis) (λ v. length v ≡ system.columns) (λ v c. (minimal v c).solves.sized) basis (All-contains_itself basis) in
+      let r = made_up system.columns (rows_of system) basis minimal meet.counted meet.solve among listed nothing in
       let c = chooses system.columns basis sized meet.counted r.0 r.1 constants may_be_zero (λ j. values (get_or columns j 0)) meet.meets in
       record { counted = meet.counted; counts = meet.counts; pieces = r.0; made_up = r.1; valid = c.0; stand = c.1 }

@@ -37,6 +37,7 @@ use Rattle.fvn_combine_complete.specs.Laws.{TagsExist}
 use Rattle.fvn_combine_complete.specs.Neutral.{IsNeutral}
 use Rattle.fvn_combine_complete.proofs.Asked.{tag_told, bare_told, user_told, shared_told, IsUserWith, user_with_told}
 use Rattle.fvn_combine_complete.proofs.Identities.{operator_told, unit_at, own_name, same_class, one_identity}
+use Rattle.fvn_combine_complete.proofs.Singles.{one_value_alive}
 use Rattle.fvn_combine_complete.proofs.Values.{may_be}
 
 -- a form has one head alone, and no sum is a constant
@@ -302,11 +303,11 @@ module _ (d : Declarations) (t : NodeTable) (made : IsWellMade t) (has : HasSums
       of = label.room.of;
       left_taken = space_taken f label.neutral (class label.room.left) label.room.left_space;
       right_taken = space_taken f label.neutral (class label.room.right) label.room.right_space;
-      differ = λ l g c shared e no_sum touched same.
+      differ = λ l g c shared e no_sum both one_value same.
           let n : l ≢ k = λ e. c.not_bound (subst (IsBound d t class tag f) (sym e) (tagged h.used h.shared (tag_noted k f h))) in
           let other : g ≢ f = λ same. c.not_bound (tagged c.used shared (e ∙ ap Some same)) in
           let noted : IsNotedSum d t heads g l = elim ((follow l g shared (tag_right l g e).1).meant e) [ inl is ↦ absurd (no_sum is) | inr m ↦ m ] in
-          elim (label.room.told l g n other shared noted touched) [
+          elim (label.room.told l g n other shared noted both (one_value_alive d t made has s leaf values go_with f both.columns both.solution one_value)) [
             | inl two ↦ h.shared.soft two.first two.heads_first
             | inr closed ↦ elim (same_class d t s values go_with k l (own_name d t made s leaf f k h.used.column) (own_name d t made s leaf f l c.used.column).within) [
               | inl o ↦ closed o

@@ -1,9 +1,7 @@
 -- The values of classes: constants are single summands, and bound classes have summands.
 use Rattle.std.proofs.Common.{◌≡◌, ◌≢◌, ◌⊎◌, ℕ, ◌+◌, ◌<◌, ◌≤◌, List, [], ◌∷◌, length, map, get_or, refl, sym, ap, ◌∙◌, subst, inl, inr, arith, Contains, Option, Some, slice_get}
 use Rattle.std.specs.Prelude.{pos, ◌-ℤ◌}
-use Rattle.std.specs.List.{AllByRecursion}
 use Rattle.std.proofs.lemmas.Bool.{cases_eq, eq-eqb, ne_eqb}
-use Rattle.std.proofs.lemmas.List.{length-map}
 use Rattle.fvn_base.proofs.Membership.{contains_filter}
 use Rattle.fvn_terms.specs.declared.plain.OpId.{OpId}
 use Rattle.fvn_terms.specs.declared.declarations.Declarations.{Declarations}
@@ -12,7 +10,6 @@ use Rattle.fvn_terms.specs.Equality.{IsAssociative, identity}
 use Rattle.fvn_forms.specs.Flat.{FlatTerm, fconstant}
 use Rattle.fvn_forms.specs.InOrder.{one_if, count}
 use Rattle.fvn_forms.specs.Canon.{parts, build}
-use Rattle.fvn_forms.specs.Settled.{Settled}
 use Rattle.fvn_forms.proofs.InOrder.{count_itself}
 use Rattle.fvn_forms.proofs.Sums.{same_op_itself}
 use Rattle.fvn_forms.proofs.Build.{count_parts_build}
@@ -23,7 +20,7 @@ use Rattle.fvn_flat.specs.Partitions.{HasNoIdentity}
 use Rattle.fvn_combine_nodes.specs.Table.{NodeTable, IsWellMade, IsOver}
 use Rattle.fvn_combine_nodes.specs.States.{IsOpen, class_of}
 use Rattle.fvn_combine_nodes.specs.declared.state.State.{State}
-use Rattle.fvn_combine_nodes.proofs.Heading.{identity_of, some_part, build_head}
+use Rattle.fvn_combine_nodes.proofs.Heading.{identity_of, some_part}
 use Rattle.fvn_combine_systems.specs.NodeSystems.{is_headed, addends, stands_in, coefficient}
 use Rattle.fvn_combine_systems.proofs.Members.{over_addends}
 use Rattle.fvn_combine_systems.proofs.Weighing.{balance}
@@ -33,6 +30,7 @@ use Rattle.fvn_combine_choices.specs.Tables.{HasSums}
 use Rattle.fvn_combine_complete.specs.Obeying.{IsTold, GoWith, IsSumOf, IsSumOrIdentityOf, ObeyHeads, IsTakenAsSum, ObeyTags, TagsFollow}
 use Rattle.fvn_combine_complete.proofs.Heads.{build_constant, single_part}
 use Rattle.fvn_combine_complete.proofs.Identities.{UnitAt, unit_at, IsName, own_name, same_class, no_twin_identity}
+use Rattle.fvn_combine_complete.proofs.Singles.{solid_head}
 use Rattle.fvn_combine_complete.proofs.TwoSummands.{two_summands}
 
 equal_parts : (m n : ℕ) → pos m -ℤ pos n ≡ pos 0 → m ≡ n
@@ -55,17 +53,9 @@ module _ (d : Declarations) (t : NodeTable) (made : IsWellMade t) (has : HasSums
   abbrev class : ℕ → ℕ
   class = class_of s
 
-  settled_values : (ks : List ℕ) → AllByRecursion (Settled d) (map (λ k. values (class k)) ks)
-  settled_values [] = tt
-  settled_values (k ∷ ks) = (go_with.are.settled (class k), settled_values ks)
-
   -- an operator without an identity that heads a member heads the value
   pub head_of_solid : (f : OpId) (k : ℕ) → IsSolid d t class f k → head_of (values k) ≡ Some f
-  head_of_solid f k h =
-      ap (λ n. head_of (values n)) (sym h.of)
-      ∙ ap head_of (go_with.are.built h.member f h.arguments h.over)
-      ∙ build_head d f h.no_identity (map (λ k. values (class k)) h.arguments) (settled_values h.arguments)
-      (λ assoc. length-map h.arguments (λ k. values (class k)) ∙ (has.pairs h.member f h.arguments h.over assoc).0)
+  head_of_solid = solid_head d t made has s leaf values go_with
 
   -- its value is no sum of f, and not f's identity
   constant_other : (f : OpId) (k : ℕ) → IsConstant d t class tag f k → IsShared d t class k → IsSumOrIdentityOf d f (values k) → ⊥
@@ -105,7 +95,7 @@ module _ (d : Declarations) (t : NodeTable) (made : IsWellMade t) (has : HasSums
   constant_alone f k h = single_part d f (values k) (constant_no_sum f k h) (constant_no_identity f k h)
 
   -- a single summand is a constant, whatever the tags are
-  single_constant : (f : OpId) (k : ℕ) → IsSingle d t class f k → IsConstant d t class tag f k
+  pub single_constant : (f : OpId) (k : ℕ) → IsSingle d t class f k → IsConstant d t class tag f k
   single_constant f k h = record { used = h.used; not_bound = unbound }
     where
       unbound : IsBound d t class tag f k → ⊥

@@ -1,5 +1,5 @@
 -- Laws of values at a leaf.
-use Rattle.std.specs.Prelude.{◌≡◌, ◌↔◌, ℕ, ◌<◌, ◌≤◌, Bool, true, List, [], length, slice_index, slice_index_or, Option, Contains}
+use Rattle.std.specs.Prelude.{◌≡◌, ℕ, ◌<◌, ◌≤◌, Bool, true, List, [], length, slice_index, slice_index_or, Option, Contains}
 use Rattle.fvn_terms.specs.declared.plain.OpId.{OpId}
 use Rattle.fvn_terms.specs.declared.declarations.Declarations.{Declarations}
 use Rattle.fvn_terms.specs.Substitution.{Substitution}
@@ -31,6 +31,7 @@ use Rattle.fvn_combine_choices.specs.Choosing.{Systems, Choice, AreSystems, IsPo
 use Rattle.fvn_combine_choices.specs.Covering.{CoversOnKinds}
 use Rattle.fvn_combine_choices.specs.Plans.{IsPlanBy, AreBindingsBy, unfolds_to}
 use Rattle.fvn_combine_complete.specs.CoveringChoices.{IsAfterNumbersOf, IsCovering}
+use Rattle.fvn_combine_complete.specs.Alive.{HasAlive, ListsAlive}
 use Rattle.fvn_combine_complete.specs.Full.{IsFull}
 use Rattle.fvn_combine_complete.specs.LaidOut.{laid_out}
 use Rattle.fvn_combine_complete.specs.Obeyed.{AreObeying}
@@ -60,7 +61,7 @@ ValuesMeetWhatIsAsked =
     (d : Declarations) (t : NodeTable) → IsWellMade t → HasSums d t → (s : State) (heads : List (Option OpId)) → IsLeaf d t heads s → IsTold d t (class_of s)
     → (values : ℕ → FlatTerm) → GoWith d t s values → ObeyHeads d t s heads values → (tag : ℕ → Option OpId) → ObeyTags d t (class_of s) tag values → TagsFollow d t (class_of s) tag values heads
     → (f : OpId) → IsSumOperator d t f → (columns : List ℕ) (system : System) → IsNodeSystem t (class_of s) f columns system
-    → (basis : List (List ℕ)) → ((v : List ℕ) → Contains basis v ↔ IsMinimal system.columns (rows_of system) v)
+    → (basis : List (List ℕ)) → ((v : List ℕ) → Contains basis v → IsMinimal system.columns (rows_of system) v)
     → (constants : List ℕ) (may_be_zero : List Bool) → AreAsked d t (class_of s) tag f columns constants may_be_zero
     → CountsMeet d f values columns system basis constants may_be_zero
 
@@ -70,7 +71,8 @@ ValuesChoose =
     (d : Declarations) (t : NodeTable) → IsWellMade t → HasSums d t → (s : State) (heads : List (Option OpId)) → IsLeaf d t heads s → IsTold d t (class_of s)
     → (values : ℕ → FlatTerm) → GoWith d t s values → ObeyHeads d t s heads values → (tag : ℕ → Option OpId) → ObeyTags d t (class_of s) tag values → TagsFollow d t (class_of s) tag values heads
     → (f : OpId) → IsSumOperator d t f → (columns : List ℕ) (system : System) → IsNodeSystem t (class_of s) f columns system
-    → (basis : List (List ℕ)) → ((v : List ℕ) → Contains basis v ↔ IsMinimal system.columns (rows_of system) v)
+    → (basis : List (List ℕ)) → ((v : List ℕ) → Contains basis v → IsMinimal system.columns (rows_of system) v)
+    → HasAlive d t s f columns system basis
     → (constants : List ℕ) (may_be_zero : List Bool) → AreAsked d t (class_of s) tag f columns constants may_be_zero
     → IsChosen d f values columns system basis constants may_be_zero
 
@@ -78,7 +80,7 @@ ValuesChoose =
 abbrev pub ValuesAreLaidOut : Type 0
 ValuesAreLaidOut =
     (d : Declarations) (f : OpId) (values : ℕ → FlatTerm) (columns : List ℕ) (system : System)
-    → (basis : List (List ℕ)) → ((v : List ℕ) → Contains basis v ↔ IsMinimal system.columns (rows_of system) v)
+    → (basis : List (List ℕ)) → ((v : List ℕ) → Contains basis v → IsMinimal system.columns (rows_of system) v)
     → (constants : List ℕ) (may_be_zero : List Bool) → (ch : IsChosen d f values columns system basis constants may_be_zero)
     → (j : ℕ) → j < length columns → (IsUnused (rows_of system) j → ⊥)
     → SameCounts (parts d f (values (slice_index columns j))) (laid_out j ch.pieces basis)
@@ -87,7 +89,7 @@ ValuesAreLaidOut =
 abbrev pub NoAliases : Type 0
 NoAliases =
     (d : Declarations) (f : OpId) (values : ℕ → FlatTerm) (columns : List ℕ) (system : System)
-    → (basis : List (List ℕ)) → ((v : List ℕ) → Contains basis v ↔ IsMinimal system.columns (rows_of system) v)
+    → (basis : List (List ℕ)) → ((v : List ℕ) → Contains basis v → IsMinimal system.columns (rows_of system) v)
     → (constants : List ℕ) (may_be_zero : List Bool) → (ch : IsChosen d f values columns system basis constants may_be_zero)
     → (i j c : ℕ) → i < length basis → has_some (slice_index_or ch.pieces i []) ≡ true → j < length columns → (IsUnused (rows_of system) j → ⊥) → Contains constants c
     → 2 ≤ length (parts d f (values (slice_index columns j))) → 0 < slice_index (slice_index_or basis i []) j → 0 < slice_index (slice_index_or basis i []) c
@@ -118,7 +120,7 @@ UnifiersGoWith =
 abbrev pub ValuesObeyChoices : Type 0
 ValuesObeyChoices =
     (d : Declarations) → IsGood d → (t : NodeTable) → IsWellMade t → HasSums d t → (s : State) (heads : List (Option OpId)) → IsLeaf d t heads s → IsTold d t (class_of s)
-    → (y : Systems) → AreSystems d t (class_of s) y → (values : ℕ → FlatTerm) → GoWith d t s values → ObeyHeads d t s heads values
+    → (y : Systems) → AreSystems d t (class_of s) y → ListsAlive d t s y → (values : ℕ → FlatTerm) → GoWith d t s values → ObeyHeads d t s heads values
     → (c : Choice) × IsPossible d t (class_of s) y c × IsFull d t (class_of s) y c × AreObeying d t (class_of s) y c values × TagsFollow d t (class_of s) c.tag values heads
 
 -- where values obey a choice, a class needs only classes of a lower rank
@@ -143,6 +145,6 @@ ObeyedChoicesCover =
 abbrev pub LeavesCover : Type 0
 LeavesCover =
     (d : Declarations) → IsGood d → (problem : Problem) → IsProblem d problem → (t : NodeTable) → IsWellMade t → IsTableOf d problem t
-    → (s : State) (heads : List (Option OpId)) → IsLeaf d t heads s → IsTold d t (class_of s) → (y : Systems) → AreSystems d t (class_of s) y
+    → (s : State) (heads : List (Option OpId)) → IsLeaf d t heads s → IsTold d t (class_of s) → (y : Systems) → AreSystems d t (class_of s) y → ListsAlive d t s y
     → (u : Substitution) → IsKindUnifier d problem u → Admits s (kernel d u t.nodes) → ObeyHeads d t s heads (value_at d u t.nodes)
     → (c : Choice) × IsCovering d problem t s y u c

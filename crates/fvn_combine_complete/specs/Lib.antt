@@ -3,6 +3,7 @@ pub mod Obeying
 pub mod LaidOut
 pub mod Neutral
 pub mod Vanishing
+pub mod Alive
 pub mod Full
 pub mod Obeyed
 pub mod CoveringChoices

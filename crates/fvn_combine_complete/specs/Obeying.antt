@@ -13,7 +13,7 @@ use Rattle.fvn_lindio.specs.declared.system.System.{System}
 use Rattle.fvn_lindio.specs.Systems.{IsMinimal, rows_of}
 use Rattle.fvn_flat.specs.SolvedLists.{component}
 use Rattle.fvn_combine_systems.specs.NodeSystems.{IsNodeSystem}
-use Rattle.fvn_combine_leaves.specs.Leaves.{IsSolid, Uses, IsShared, AreTouched, IsNotedSum, HasRoom}
+use Rattle.fvn_combine_leaves.specs.Leaves.{IsSolid, IsSingle, Uses, IsShared, AreTouched, IsNotedSum, HasRoom}
 use Rattle.fvn_combine_choices.specs.Binding.{IsConstant}
 use Rattle.fvn_combine_complete.specs.Neutral.{IsNeutral}
 
@@ -64,9 +64,14 @@ module _ (d : Declarations) (t : NodeTable) (class : ℕ → ℕ) (tag : ℕ →
     pub has : 0 < component columns solution z
     pub free : (l : ℕ) → IsConstant d t class tag f l → component columns solution l ≡ 0
 
+  -- the single summands of f that a solution has, one part a column, have one value
+  abbrev pub HasOneValue : OpId → (columns solution : List ℕ) → Type 0
+  HasOneValue f columns solution = (k l : ℕ) → IsSingle d t class f k → IsSingle d t class f l
+      → 0 < component columns solution k → 0 < component columns solution l → values k ≡ values l
+
   -- Class k is taken as a sum of f, though its value is one summand: no operator that uses the class makes it a sum. The identity of f leaves
   -- sorts alone, f heads a member, and each class that it adds is a constant, or a minimal solution without a constant has it. A shared constant
-  -- that is in a minimal solution with k, and is taken as a sum too, differs.
+  -- that is in a minimal solution with k whose single summands have one value, and is taken as a sum too, differs.
   pub record IsTakenAsSum (f : OpId) (k : ℕ) : Type 0 where
     pub neutral : IsNeutral d f
     pub one : (g : OpId) → Uses d t class g k → IsSumOrIdentityOf d g (values k) → ⊥
@@ -78,7 +83,7 @@ module _ (d : Declarations) (t : NodeTable) (class : ℕ → ℕ) (tag : ℕ →
     pub left_taken : IsConstant d t class tag f (class left) ⊎ IsBare f (class left)
     pub right_taken : IsConstant d t class tag f (class right) ⊎ IsBare f (class right)
     pub differ : (l : ℕ) (g : OpId) → IsConstant d t class tag f l → IsShared d t class l → tag l ≡ Some g → (IsSumOrIdentityOf d g (values l) → ⊥)
-        → AreTouched d t class f k l → values l ≢ values k
+        → (both : AreTouched d t class f k l) → HasOneValue f both.columns both.solution → values l ≢ values k
 
   -- f is the tag of class k where the value is a sum of it, or its identity; and where it is the tag, this holds, or the class is taken as a sum
   pub record ObeysTag (k : ℕ) (f : OpId) : Type 0 where

@@ -118,6 +118,11 @@ module _ (d : Declarations) (t : NodeTable) where
   IsLive heads s f columns solution = (k l : ℕ) → k ≢ l → IsOneSummand heads (class_of s) f k → IsOneSummand heads (class_of s) f l
       → 0 < component columns solution k → 0 < component columns solution l → AreTold s k l → ⊥
 
+  -- the same of those that are single summands by their heads alone: so it may stand for a summand, whatever is noted
+  abbrev pub IsAlive : State → OpId → (columns solution : List ℕ) → Type 0
+  IsAlive s f columns solution = (k l : ℕ) → k ≢ l → IsSingle (class_of s) f k → IsSingle (class_of s) f l
+      → 0 < component columns solution k → 0 < component columns solution l → AreTold s k l → ⊥
+
   -- Class z has space for f: a minimal solution of f's sum system has it, and no other class that may be a constant, but shared ones that
   -- are noted as sums of f. So z is a constant, or a choice may take a solution without a constant that has it.
   pub record HasSpace (heads : List (Option OpId)) (s : State) (f : OpId) (z : ℕ) : Type 0 where
@@ -140,8 +145,9 @@ module _ (d : Declarations) (t : NodeTable) where
     pub of : class_of s member ≡ k
     pub left_space : IsSingle (class_of s) f (class_of s left) ⊎ HasSpace heads s f (class_of s left)
     pub right_space : IsSingle (class_of s) f (class_of s right) ⊎ HasSpace heads s f (class_of s right)
-    -- of each other shared class of which another operator is noted, and that is in a minimal solution with k, it is told that it differs
-    pub told : (l : ℕ) (g : OpId) → l ≢ k → g ≢ f → IsShared (class_of s) l → IsNotedSum heads g l → AreTouched (class_of s) f k l → AreTold s k l
+    -- of each other shared class of which another operator is noted, and that is in a minimal solution with k that is alive, it is told that it differs
+    pub told : (l : ℕ) (g : OpId) → l ≢ k → g ≢ f → IsShared (class_of s) l → IsNotedSum heads g l
+        → (both : AreTouched (class_of s) f k l) → IsAlive s f both.columns both.solution → AreTold s k l
 
   -- an operator that labels note of a class is noted by heads, or is a candidate for which the class has room
   abbrev pub AreLabels : State → (heads candidates labels : List (Option OpId)) → Type 0

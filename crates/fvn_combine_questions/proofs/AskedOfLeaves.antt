@@ -14,7 +14,7 @@ use Rattle.fvn_combine_nodes.specs.declared.state.State.{State}
 use Rattle.fvn_combine_nodes.proofs.Nodes.{arguments_within}
 use Rattle.fvn_combine_nodes.proofs.Lists.{all_from}
 use Rattle.fvn_combine_leaves.specs.Leaves.{Uses, MayBeConstant, IsOneSummand, HaveTwoHeads, AreTouched, AreTold, IsLive, IsNotedSum, IsNearLeaf, IsFirstQuestion, IsQuestion, IsFullQuestion}
-use Rattle.fvn_combine_leaves.specs.Bases.{AreBases}
+use Rattle.fvn_combine_leaves.specs.Bases.{AreBases, HaveAlive}
 use Rattle.fvn_combine_leaves.specs.Readings.{AreSums, IsReading}
 use Rattle.fvn_combine_questions.specs.inner.Past.{IsOpenPairOr, IsPastUser, ArePastIdentities, ArePastClasses, ArePastPairs}
 use Rattle.fvn_combine_leaves.specs.Users.{IsWhole, IsMarked, HasTwinIn, IsSharedIn, CanBeConstant, HaveHeads}
@@ -88,10 +88,10 @@ module _ (d : Declarations) (t : NodeTable) (made : IsWellMade t) (s : State) (c
           let basis = are.each i e at in
           let sums = All-contains (AreSums d t (class_of s)) r.sums e reading.sums (contained_at r.sums i e at) in
           all_from (λ v. length v.parts ≡ length e.columns) (get_or bases i []) (λ v c.
-          let minimal = (basis.exact v.parts).0 (contains_map (λ (w : Solution). w.parts) (get_or bases i []) v c) in
+          let minimal = basis.minimal v.parts (contains_map (λ (w : Solution). w.parts) (get_or bases i []) v c) in
           minimal.solves.sized ∙ sums.is_system.wide)
 
-      module _ (past : AreAllPast r s (IsNotedIn d heads) bases) where
+      module _ (have : HaveAlive d t s r.sums bases) (past : AreAllPast r s (IsNotedIn d heads) bases) where
         -- classes that may be constants of the operator at this place are told apart, where a solution of its system has both
         module _ (e : Sums) (c : Contains r.sums e) where
           at_place : slice_get r.sums c.0 ≡ Some e
@@ -127,7 +127,7 @@ module _ (d : Declarations) (t : NodeTable) (made : IsWellMade t) (s : State) (c
 
           module _ (k l : ℕ) (mk : MayBeConstant d t (class_of s) e.operator k) (ml : MayBeConstant d t (class_of s) e.operator l) (nk : IsNotedSum d t heads e.operator k → ⊥) (nl : IsNotedSum d t heads e.operator l → ⊥) (h : AreTouched d t (class_of s) e.operator k l) (live : IsLive d t heads s e.operator h.columns h.solution) where
             own_solution : HasOwn (get_or bases c.0 []) e h.columns h.solution
-            own_solution = own_of d t made s closed r reading c.0 e at_place bases are h.columns h.system h.is h.solution h.minimal
+            own_solution = own_of d t made s closed r reading c.0 e at_place bases have h.columns h.system h.is h.solution h.minimal (λ x y other a b. live x y other (inl a) (inl b))
 
             abbrev own : Solution
             own = own_solution.own
@@ -172,12 +172,12 @@ module _ (d : Declarations) (t : NodeTable) (made : IsWellMade t) (s : State) (c
                 ]
 
       -- the answer where pairs are asked that a solution has both of
-      pub asked_on_touched : IsNearLeaf d t s → (o : Option (ℕ × ℕ)) → IsOpenPairOr s (AreAllPast r s (IsNotedIn d heads) bases) o → IsQuestion d t heads s o
-      asked_on_touched near None past = record { closed = near.closed; partition = near.partition; identities = near.identities; constants = touched }
+      pub asked_on_touched : HaveAlive d t s r.sums bases → IsNearLeaf d t s → (o : Option (ℕ × ℕ)) → IsOpenPairOr s (AreAllPast r s (IsNotedIn d heads) bases) o → IsQuestion d t heads s o
+      asked_on_touched have near None past = record { closed = near.closed; partition = near.partition; identities = near.identities; constants = touched }
         where
           touched : (f : OpId) (k l : ℕ) → MayBeConstant d t (class_of s) f k → MayBeConstant d t (class_of s) f l → (IsNotedSum d t heads f k → ⊥) → (IsNotedSum d t heads f l → ⊥) → (both : AreTouched d t (class_of s) f k l) → IsLive d t heads s f both.columns both.solution → AreTold d t s k l
           touched f k l mk ml nk nl both live =
               let a = entry_of d t made s closed r reading f k mk.used in
               subst (λ o. (mk : MayBeConstant d t (class_of s) o k) (ml : MayBeConstant d t (class_of s) o l) (nk : IsNotedSum d t heads o k → ⊥) (nl : IsNotedSum d t heads o l → ⊥) (both : AreTouched d t (class_of s) o k l) → IsLive d t heads s o both.columns both.solution → AreTold d t s k l) a.operator
-              (apart_where_touched past a.entry a.listed k l) mk ml nk nl both live
-      asked_on_touched near (Some p) h = pair_question (AreAllPast r s (IsNotedIn d heads) bases) p h
+              (apart_where_touched have past a.entry a.listed k l) mk ml nk nl both live
+      asked_on_touched have near (Some p) h = pair_question (AreAllPast r s (IsNotedIn d heads) bases) p h

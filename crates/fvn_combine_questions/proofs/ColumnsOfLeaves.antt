@@ -16,8 +16,8 @@ use Rattle.fvn_combine_nodes.specs.States.{IsClosed, class_of}
 use Rattle.fvn_combine_nodes.specs.declared.state.State.{State}
 use Rattle.fvn_combine_systems.specs.NodeSystems.{IsNodeColumn, IsNodeSystem}
 use Rattle.fvn_combine_systems.proofs.Weighing.{component_at}
-use Rattle.fvn_combine_leaves.specs.Leaves.{IsSolid, IsShared, MayBeConstant, HaveTwoHeads, AreTold}
-use Rattle.fvn_combine_leaves.specs.Bases.{AreBases}
+use Rattle.fvn_combine_leaves.specs.Leaves.{IsSolid, IsShared, MayBeConstant, HaveTwoHeads, AreTold, IsAlive}
+use Rattle.fvn_combine_leaves.specs.Bases.{HaveAlive}
 use Rattle.fvn_combine_leaves.specs.Readings.{AreSums, IsReading}
 use Rattle.fvn_combine_leaves.specs.Users.{head_of, CanStand, CanBeConstant, HaveHeads}
 use Rattle.fvn_combine_leaves.specs.declared.reading.Sums.{Sums}
@@ -86,16 +86,18 @@ module _ (d : Declarations) (t : NodeTable) (made : IsWellMade t) (s : State) (c
     pub column_of : (k : ℕ) → MayBeConstant d t (class_of s) e.operator k → (j : ℕ) × (j < length e.columns) × (get_or e.columns j 0 ≡ k)
     column_of k m = column_at k m.used.column
 
-    -- a minimal solution of the operator's system, whatever the order of its columns is, is among those that are found
-    pub own_of : (bases : List (List Solution)) → AreBases r.sums bases → (columns : List ℕ) (system : System) → IsNodeSystem t (class_of s) e.operator columns system → (solution : List ℕ) → IsMinimal system.columns (rows_of system) solution → HasOwn (get_or bases i []) e columns solution
-    own_of bases are columns system is solution minimal =
+    -- a minimal solution of the operator's system that is alive, whatever the order of its columns is, is among those that are found
+    pub own_of : (bases : List (List Solution)) → HaveAlive d t s r.sums bases → (columns : List ℕ) (system : System) → IsNodeSystem t (class_of s) e.operator columns system → (solution : List ℕ) → IsMinimal system.columns (rows_of system) solution → IsAlive d t s e.operator columns solution → HasOwn (get_or bases i []) e columns solution
+    own_of bases have columns system is solution minimal alive =
         let moved = carry columns e.columns solution in
+        let same = carried t (class_of s) e.operator columns e.columns system e.system is sums_at.is_system solution in
         let own_minimal = minimal_carried t (class_of s) e.operator columns e.columns system e.system is sums_at.is_system solution minimal in
-        let own = map_contains (λ (w : Solution). w.parts) (get_or bases i []) moved (((are.each i e at).exact moved).1 own_minimal) in
+        let own_alive : IsAlive d t s e.operator e.columns moved = λ k l other a b p q. alive k l other a b (subst (λ n. 0 < n) (same k) p) (subst (λ n. 0 < n) (same l) q) in
+        let own = map_contains (λ (w : Solution). w.parts) (get_or bases i []) moved (have i e at moved own_minimal own_alive) in
         record {
           own = own.0;
           listed = own.1.0;
           part = λ j below.
               ap (λ x. get_or x j 0) own.1.1 ∙ sym (component_at e.columns moved sums_at.is_system.distinct j below)
-              ∙ carried t (class_of s) e.operator columns e.columns system e.system is sums_at.is_system solution (get_or e.columns j 0);
+              ∙ same (get_or e.columns j 0);
         }

@@ -16,8 +16,8 @@ use Rattle.fvn_combine_nodes.specs.Table.{NodeTable, IsWellMade, IsOver}
 use Rattle.fvn_combine_nodes.specs.States.{IsClosed, class_of}
 use Rattle.fvn_combine_nodes.specs.declared.state.State.{State}
 use Rattle.fvn_combine_systems.proofs.Weighing.{component_at}
-use Rattle.fvn_combine_leaves.specs.Leaves.{IsShared, MayBeConstant, IsSingle, AreTouched, AreTold, IsNotedSum, HasSpace, HasRoom, AreLabels}
-use Rattle.fvn_combine_leaves.specs.Bases.{AreBases}
+use Rattle.fvn_combine_leaves.specs.Leaves.{IsShared, MayBeConstant, IsSingle, AreTouched, AreTold, IsAlive, IsNotedSum, HasSpace, HasRoom, AreLabels}
+use Rattle.fvn_combine_leaves.specs.Bases.{AreBases, HaveAlive}
 use Rattle.fvn_combine_leaves.specs.Readings.{AreSums, IsReading}
 use Rattle.fvn_combine_leaves.specs.Users.{IsSharedIn, CanBeConstant}
 use Rattle.fvn_combine_leaves.specs.declared.reading.Sums.{Sums}
@@ -68,7 +68,7 @@ member_from t s f k i ks g over same of ls is (Some p) h = record {
 }
 
 module _ (d : Declarations) (t : NodeTable) (made : IsWellMade t) (s : State) (closed : IsClosed d t s) (r : Reading) (reading : IsReading d t (class_of s) r) where
-  module _ (bases : List (List Solution)) (are : AreBases r.sums bases) (labels : List (Option OpId)) where
+  module _ (bases : List (List Solution)) (are : AreBases r.sums bases) (have : HaveAlive d t s r.sums bases) (labels : List (Option OpId)) where
     -- the operator at this place, which has an identity
     module _ (i : ℕ) (e : Sums) (at : slice_get r.sums i ≡ Some e) (some : HasNoIdentity (axioms d e.operator) → ⊥) where
       system_of : AreSums d t (class_of s) e
@@ -83,7 +83,7 @@ module _ (d : Declarations) (t : NodeTable) (made : IsWellMade t) (s : State) (c
         parts = h.free.solution.parts
 
         minimal_parts : IsMinimal e.system.columns (rows_of e.system) parts
-        minimal_parts = ((are.each i e at).exact parts).0 (contains_map (λ (w : Solution). w.parts) (get_or bases i []) h.free.solution h.free.listed)
+        minimal_parts = (are.each i e at).minimal parts (contains_map (λ (w : Solution). w.parts) (get_or bases i []) h.free.solution h.free.listed)
 
         part_at : (j : ℕ) → j < length e.columns → component e.columns parts (get_or e.columns j 0) ≡ get_or parts j 0
         part_at j l = component_at e.columns parts system_of.is_system.distinct j l
@@ -135,10 +135,10 @@ module _ (d : Declarations) (t : NodeTable) (made : IsWellMade t) (s : State) (c
       space_at z (inl single) = inl (single_of z single)
       space_at z (inr free) = inr (space_of z free)
 
-      -- shared classes of which other operators are noted, and that are in a solution with the class, are told from it
-      told_from : (k : ℕ) → StandsApart r e labels s (get_or bases i []) k → (l : ℕ) (g : OpId) → g ≢ e.operator → IsShared d t (class_of s) l → IsNotedSum d t labels g l → AreTouched d t (class_of s) e.operator k l → AreTold d t s k l
-      told_from k h l g differs shared noted both =
-          let own = own_of d t made s closed r reading i e at bases are both.columns both.system both.is both.solution both.minimal in
+      -- shared classes of which other operators are noted, and that are in a solution with the class that is alive, are told from it
+      told_from : (k : ℕ) → StandsApart r e labels s (get_or bases i []) k → (l : ℕ) (g : OpId) → g ≢ e.operator → IsShared d t (class_of s) l → IsNotedSum d t labels g l → (both : AreTouched d t (class_of s) e.operator k l) → IsAlive d t s e.operator both.columns both.solution → AreTold d t s k l
+      told_from k h l g differs shared noted both alive =
+          let own = own_of d t made s closed r reading i e at bases have both.columns both.system both.is both.solution both.minimal alive in
           let column = (both.is.exact l).0 (column_listed both.columns both.solution l both.right) in
           let j = column_at d t made s closed r reading i e at l column in
           let a = own.part h.column h.within in
@@ -162,7 +162,7 @@ module _ (d : Declarations) (t : NodeTable) (made : IsWellMade t) (s : State) (c
         of = m.member.of;
         left_space = space_at (class_of s m.member.left) (subst (HasSpaceIn r e labels (get_or bases i [])) (sym m.member.left_is) m.left_space);
         right_space = space_at (class_of s m.member.right) (subst (HasSpaceIn r e labels (get_or bases i [])) (sym m.member.right_is) m.right_space);
-        told = λ l g _ differs shared noted both. told_from k h l g differs shared noted both;
+        told = λ l g _ differs shared noted both alive. told_from k h l g differs shared noted both alive;
       }
 
     room_from : (f : OpId) (k : ℕ) → IsRoomFor d (HasRoomIn r bases (IsRoom t s r labels)) f k → HasRoom d t labels s f k

@@ -1,6 +1,6 @@
 //! The next question of a state that is no leaf yet.
 ghost use Rattle.fvn_combine_nodes.specs.States.{IsClosed, class_of};
-ghost use Rattle.fvn_combine_leaves.specs.Bases.{AreBases};
+ghost use Rattle.fvn_combine_leaves.specs.Bases.{AreBases, HaveAlive};
 ghost use Rattle.fvn_combine_leaves.specs.Leaves.{IsNearLeaf, IsFirstQuestion, IsQuestion, IsFullQuestion};
 ghost use Rattle.fvn_combine_leaves.specs.Readings.{IsReading};
 
@@ -72,6 +72,7 @@ pub fn question_on_touched(
     requires near { IsNearLeaf sig.now table.now state.now }
     requires reading { IsReading sig.now table.now (class_of state.now) reading.now }
     requires bases { AreBases reading.now.sums bases.now }
+    requires alive { HaveAlive sig.now table.now state.now reading.now.sums bases.now }
     ensures { IsQuestion sig.now table.now heads.now state.now result }
 {
     table.recall_well_made();

@@ -5,7 +5,7 @@
 //! shared class of which another operator is noted, and which a minimal solution has with the class, may be one with it.
 ghost use Rattle.std.specs.Prelude.{◌≡◌, ◌<◌, length, set, None, MatchOption, IfSome, All, IsTrue};
 ghost use Rattle.fvn_combine_nodes.specs.States.{IsClosed, IsNaming, class_of};
-ghost use Rattle.fvn_combine_leaves.specs.Bases.{AreBases};
+ghost use Rattle.fvn_combine_leaves.specs.Bases.{AreBases, HaveAlive};
 ghost use Rattle.fvn_combine_leaves.specs.Leaves.{AreLabels};
 ghost use Rattle.fvn_combine_leaves.specs.Readings.{IsReading};
 ghost use Rattle.fvn_combine_leaves.specs.Users.{IsWholeSums, IsWhole};
@@ -542,6 +542,7 @@ pub fn sieve_labels(
     requires closed { IsClosed sig.now table.now state.now }
     requires reading { IsReading sig.now table.now (class_of state.now) reading.now }
     requires bases { AreBases reading.now.sums bases.now }
+    requires alive { HaveAlive sig.now table.now state.now reading.now.sums bases.now }
     ensures labels { AreLabels sig.now table.now state.now heads.now
         labels.old.items labels.new.items }
     ensures as_many { length labels.new.items ≡ length labels.old.items }

@@ -96,10 +96,10 @@ side-add f side none short more (c ∷ row) (a ∷ x) (b ∷ y) e =
     let r = more c row b y in
     omega (arith, rest, p, q, r)
 
-up-add : (row : List ℤ) (x y : List ℕ) → length x ≡ length y → up row (add x y) ≡ up row x + up row y
+pub up-add : (row : List ℤ) (x y : List ℕ) → length x ≡ length y → up row (add x y) ≡ up row x + up row y
 up-add = side-add above up (λ x. refl) (λ c row. refl) (λ c row a x. refl)
 
-down-add : (row : List ℤ) (x y : List ℕ) → length x ≡ length y → down row (add x y) ≡ down row x + down row y
+pub down-add : (row : List ℤ) (x y : List ℕ) → length x ≡ length y → down row (add x y) ≡ down row x + down row y
 down-add = side-add below down (λ x. refl) (λ c row. refl) (λ c row a x. refl)
 
 side-times : (f : ℤ → ℕ) (side : List ℤ → List ℕ → ℕ) → ((x : List ℕ) → side [] x ≡ 0) → ((c : ℤ) (row : List ℤ) → side (c ∷ row) [] ≡ 0) → ((c : ℤ) (row : List ℤ) (a : ℕ) (x : List ℕ) → side (c ∷ row) (a ∷ x) ≡ f c * a + side row x) →

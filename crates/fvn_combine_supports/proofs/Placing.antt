@@ -1,6 +1,6 @@
 -- Pieces for counts that solve a system.
 use Rattle.std.proofs.Common.{◌≡◌, ℕ, zero, suc, false, List, [], ◌∷◌, ◌++◌, length, map, replicate, refl, sym, ap, ◌∙◌, subst, inl, inr, arith, Contains}
-use Rattle.std.specs.Prelude.{ℤ, ◌↔◌}
+use Rattle.std.specs.Prelude.{ℤ}
 use Rattle.std.proofs.lemmas.Bool.{false_from_ne_true}
 use Rattle.std.proofs.lemmas.List.Elements.{All-weaker, All-contains_itself}
 use Rattle.fvn_base.proofs.Decided.{some_or_none}
@@ -10,10 +10,12 @@ use Rattle.fvn_forms.specs.Order.{same_flat}
 use Rattle.fvn_forms.specs.InOrder.{one_if, count}
 use Rattle.fvn_forms.proofs.Order.{same_flat_is, same_flat_itself, flat_equal_decided}
 use Rattle.fvn_forms.proofs.InOrder.{count_append}
+use Rattle.fvn_lindio.specs.Vectors.{IsAtOrBelow}
 use Rattle.fvn_lindio.specs.Systems.{Solves, IsMinimal}
-use Rattle.fvn_lindio.specs.Laws.{combination, SumOfMinimal}
+use Rattle.fvn_lindio.specs.Laws.{combination, MinimalBelow}
 use Rattle.fvn_combine_supports.specs.Pieces.{AreMadeUp}
 use Rattle.fvn_combine_supports.proofs.Combining.{Sized, combination-nothing}
+use Rattle.fvn_combine_supports.proofs.Summing.{sum_of_listed}
 
 same_false : (q t : FlatTerm) → (t ≡ q → ⊥) → same_flat q t ≡ false
 same_false q t n = false_from_ne_true (same_flat q t) (λ e. n (sym (same_flat_is q t e)))
@@ -66,7 +68,8 @@ length_nothing : (n : ℕ) → length {A = List FlatTerm} (replicate n []) ≡ n
 length_nothing zero = refl
 length_nothing (suc n) = ap suc (length_nothing n)
 
-module _ (law : SumOfMinimal) (columns : ℕ) (rows : List (List ℤ)) (basis : List (List ℕ)) (exact : (v : List ℕ) → Contains basis v ↔ IsMinimal columns rows v) (counted : FlatTerm → List ℕ) (solves : (q : FlatTerm) → Solves columns rows (counted q)) where
+module _ (law : MinimalBelow) (columns : ℕ) (rows : List (List ℤ)) (basis : List (List ℕ)) (minimal : (v : List ℕ) → Contains basis v → IsMinimal columns rows v) (counted : FlatTerm → List ℕ) (solves : (q : FlatTerm) → Solves columns rows (counted q))
+    (among : (q : FlatTerm) (v : List ℕ) → IsMinimal columns rows v → IsAtOrBelow v (counted q) → Contains basis v) where
   -- pieces for the listed flat forms, and for no others
   record PiecesFor (listed : List FlatTerm) : Type 0 where
     pieces : List (List FlatTerm)
@@ -98,7 +101,7 @@ module _ (law : SumOfMinimal) (columns : ℕ) (rows : List (List ℤ)) (basis : 
 
       more : (t : FlatTerm) (listed : List FlatTerm) → PiecesFor listed → (Contains listed t → ⊥) → PiecesFor (t ∷ listed)
       more t listed r new =
-          let s = law columns rows basis exact (counted t) (solves t) in
+          let s = sum_of_listed law columns rows basis minimal (counted t) (solves t) (among t) in
           let times = s.0 in
           let as_long : length times ≡ length r.pieces = s.1 ∙ sym r.as_many in
           let none : map (count t) r.pieces ≡ replicate (length r.pieces) 0 = r.outside t new ∙ ap (λ n. replicate n 0) (sym r.as_many) in
@@ -113,7 +116,7 @@ module _ (law : SumOfMinimal) (columns : ℕ) (rows : List (List ℤ)) (basis : 
           }
 
   sized : Sized columns basis
-  sized = All-weaker (Contains basis) (λ v. length v ≡ columns) (λ v c. ((exact v).0 c).solves.sized) basis (All-contains_itself basis)
+  sized = All-weaker (Contains basis) (λ v. length v ≡ columns) (λ v c. (minimal v c).solves.sized) basis (All-contains_itself basis)
 
   pub made_up : (listed : List FlatTerm) → ((q : FlatTerm) → (Contains listed q → ⊥) → counted q ≡ replicate columns 0) → (pieces : List (List FlatTerm)) × AreMadeUp columns basis counted pieces
   made_up listed nothing =

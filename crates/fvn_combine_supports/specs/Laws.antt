@@ -1,16 +1,19 @@
 -- Laws of supports.
-use Rattle.std.specs.Prelude.{◌≡◌, ◌↔◌, ℕ, ℤ, Bool, List, length, replicate, All, Contains}
+use Rattle.std.specs.Prelude.{◌≡◌, ℕ, ℤ, Bool, List, length, replicate, All, Contains}
 use Rattle.fvn_forms.specs.Flat.{FlatTerm}
+use Rattle.fvn_lindio.specs.Vectors.{IsAtOrBelow}
 use Rattle.fvn_lindio.specs.Systems.{Solves, IsMinimal}
 use Rattle.fvn_lindio.specs.Laws.{combination}
 use Rattle.fvn_acunify.specs.ValidChoice.{chosen, IsValid}
 use Rattle.fvn_combine_supports.specs.Pieces.{number_of, taken, some_of, AreMadeUp, Meets, StandAlone}
 
--- where what is counted of each flat form solves a system, and nothing is counted but of listed ones, it is made up of pieces for the minimal solutions
+-- where what is counted of each flat form solves a system, and nothing is counted but of listed ones, it is made up of pieces for minimal solutions:
+-- those at or below what is counted are enough
 abbrev pub CountsAreMadeUp : Type 0
 CountsAreMadeUp =
-    (columns : ℕ) (rows : List (List ℤ)) (basis : List (List ℕ)) → ((v : List ℕ) → Contains basis v ↔ IsMinimal columns rows v)
+    (columns : ℕ) (rows : List (List ℤ)) (basis : List (List ℕ)) → ((v : List ℕ) → Contains basis v → IsMinimal columns rows v)
     → (counted : FlatTerm → List ℕ) → ((q : FlatTerm) → Solves columns rows (counted q))
+    → ((q : FlatTerm) (v : List ℕ) → IsMinimal columns rows v → IsAtOrBelow v (counted q) → Contains basis v)
     → (listed : List FlatTerm) → ((q : FlatTerm) → (Contains listed q → ⊥) → counted q ≡ replicate columns 0)
     → (pieces : List (List FlatTerm)) × AreMadeUp columns basis counted pieces
 

@@ -6,13 +6,13 @@ ghost use Rattle.fvn_combine_supports.specs.Laws.{
   CombinationsSolve,
 };
 
-use fvn_lindio::sum_of_minimal;
+use fvn_lindio::minimal_below;
 
-/// Counts that solve a system are made up of pieces, some for each minimal solution.
+/// Counts that solve a system are made up of pieces for the minimal solutions at or below them.
 pub fn counts_are_made_up()
     ensures { CountsAreMadeUp }
 {
-    sum_of_minimal();
+    minimal_below();
 }
 
 /// The solutions that have pieces are a valid choice.

@@ -183,7 +183,7 @@ module _ {d : Declarations} {given : Pairs} {first : ℕ} {t : NodeTable} {s : S
     sized = λ i e at. subst (All (λ v. length v ≡ length e.columns)) (basis_at i e at) (
         all_from (λ v. length v ≡ length e.columns) ((systems_of r bases).basis e.operator) (λ v m.
         let sum = entry_operator i e at in
-        ((c.systems.exact e.operator sum v).0 m).solves.sized ∙ (c.systems.is_system e.operator sum).wide ∙ ap length (columns_at i e at)));
+        (c.systems.minimal e.operator sum v m).solves.sized ∙ (c.systems.is_system e.operator sum).wide ∙ ap length (columns_at i e at)));
   }
 
   -- a name of a class is a node

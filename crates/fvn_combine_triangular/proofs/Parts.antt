@@ -138,7 +138,7 @@ module _ {d : Declarations} {given : Pairs} {first : ℕ} {t : NodeTable} {s : S
         let sum = entry_operator m.leaf i e at in
         let basis = (systems_of r bases).basis f in
         let listed = chosen_listed ((choice_of r tags numbers).number f) basis p.solution (share_taken p q) in
-        ((m.leaf.systems.exact f sum p.solution).0 listed).solves.sized ∙ (m.leaf.systems.is_system f sum).wide ∙ ap length (columns_at m.leaf i e at)
+        (m.leaf.systems.minimal f sum p.solution listed).solves.sized ∙ (m.leaf.systems.is_system f sum).wide ∙ ap length (columns_at m.leaf i e at)
 
     -- what stands for a solution has the kind of the operator
     pub variable_kind : (q : SortId) → IsKindOf m.leaf.good e.operator q → (p : Share) → Contains (slice_index_or all i []) p → HasKind d (var p.variable) q

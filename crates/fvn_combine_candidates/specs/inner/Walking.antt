@@ -13,29 +13,29 @@ use Rattle.fvn_acunify_product.specs.Wheels.{Wheel}
 use Rattle.fvn_combine_candidates.specs.declared.opening.OpenFault.{OpenFault}
 use Rattle.fvn_combine_candidates.specs.declared.opening.OpenFault.TheVariants.{Basis, NoMemory}
 use Rattle.fvn_combine_candidates.specs.declared.sharing.SharedClass.{SharedClass}
-use Rattle.fvn_combine_leaves.specs.Bases.{IsBasis}
 use Rattle.fvn_combine_candidates.specs.Sharing.{classes_of, MayBeSum, IsSharedClass}
 use Rattle.fvn_combine_candidates.specs.Turning.{IsWheel, HasBounds}
+use Rattle.fvn_combine_candidates.specs.inner.Alive.{IsWholeBasis}
 
 -- why there is no basis of a sum operator's system
 abbrev pub IsFaultOf : Sums → OpenFault → Type 0
 IsFaultOf e (Basis f system) = (e.operator ≡ f) × (e.system ≡ system) × IsRefused system
 IsFaultOf e NoMemory = Unit {0}
 
--- few minimal solutions of a system that is not refused
+-- all minimal solutions of a system that is not refused, and few
 pub record IsKeptBasis (s : System) (basis : List Solution) : Type 0 where
-  pub is_basis : IsBasis s basis
+  pub whole : IsWholeBasis s basis
   pub few : length basis ≤ MINIMAL_SOLUTIONS
   pub kept : IsRefused s → ⊥
 
 -- such lists of the sum operators before this place
-pub record AreBasesBelow (P : System → List Solution → Type 0) (sums : List Sums) (n : ℕ) (bases : List (List Solution)) : Type 0 where
+pub record AreBasesBelow (P : Sums → List Solution → Type 0) (sums : List Sums) (n : ℕ) (bases : List (List Solution)) : Type 0 where
   pub as_many : length bases ≡ n
-  pub each : (i : ℕ) (e : Sums) → i < n → slice_get sums i ≡ Some e → P e.system (slice_index_or bases i [])
+  pub each : (i : ℕ) (e : Sums) → i < n → slice_get sums i ≡ Some e → P e (slice_index_or bases i [])
 
 -- few minimal solutions of each sum operator, whose systems are not refused
 abbrev pub AreKeptBases : List Sums → List (List Solution) → Type 0
-AreKeptBases sums bases = AreBasesBelow IsKeptBasis sums (length sums) bases
+AreKeptBases sums bases = AreBasesBelow (λ e. IsKeptBasis e.system) sums (length sums) bases
 
 module _ (d : Declarations) (t : NodeTable) (class : ℕ → ℕ) (tag : ℕ → Option OpId) (sorted : Bool) where
   -- the wheel of a sum operator, with its bounds

@@ -2,6 +2,7 @@
 use Rattle.std.proofs.Common.{List, sym, ◌∙◌, subst, Option}
 use Rattle.fvn_terms.specs.declared.plain.OpId.{OpId}
 use Rattle.fvn_combine_nodes.specs.States.{IsClosed, class_of}
+use Rattle.fvn_combine_leaves.specs.Bases.{HaveAlive}
 use Rattle.fvn_combine_leaves.specs.Leaves.{AreLabels}
 use Rattle.fvn_combine_leaves.specs.Readings.{IsReading}
 use Rattle.fvn_combine_inferring.specs.Inferred.{TellHeads}
@@ -14,6 +15,7 @@ sieve_labels-requires c = record {
   closed = subst (λ (k : Combining). IsClosed k.declarations k.table c.args.state.now) (sym c.task.view_is) c.requires.near.closed;
   reading = subst (λ (k : Combining). IsReading k.declarations k.table (class_of c.args.state.now) c.args.reading.now) (sym c.task.view_is) c.requires.reading;
   bases = c.requires.bases;
+  alive = subst (λ (k : Combining). HaveAlive k.declarations k.table c.args.state.now c.args.reading.now.sums c.args.bases.now) (sym c.task.view_is) c.requires.alive;
 }
 
 pub returns-clause-labels : goal.returns-clause-labels

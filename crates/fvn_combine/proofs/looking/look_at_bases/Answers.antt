@@ -1,7 +1,7 @@
 -- The question is open; where there is none, the state is a leaf.
 use Rattle.std.proofs.Common.{List, sym, subst, Option, None}
 use Rattle.fvn_terms.specs.declared.plain.OpId.{OpId}
-use Rattle.fvn_combine_leaves.specs.Bases.{AreBases}
+use Rattle.fvn_combine_leaves.specs.Bases.{AreBases, HaveAlive}
 use Rattle.fvn_combine_leaves.specs.Leaves.{IsQuestion}
 use Rattle.fvn_combine.proofs.looking.look_at_bases.Goals as goal
 
@@ -12,10 +12,14 @@ labels_of-requires c = record {
   heads = c.requires.heads;
   sorted = c.requires.sorted;
   bases = subst (AreBases c.args.reading.sums) (sym c.as_slice.ensures.value) c.requires.bases;
+  alive = subst (HaveAlive c.args.task.now.declarations c.args.task.now.table c.args.state.now c.args.reading.sums) (sym c.as_slice.ensures.value) c.requires.alive;
 }
 
 pub open_touched-requires-clause-bases : goal.open_touched-requires-clause-bases
 open_touched-requires-clause-bases c = subst (AreBases c.args.reading.sums) (sym c.as_slice-3.ensures.value) c.requires.bases
+
+pub open_touched-requires-clause-alive : goal.open_touched-requires-clause-alive
+open_touched-requires-clause-alive c = subst (HaveAlive c.args.task.now.declarations c.args.task.now.table c.args.state.now c.args.reading.sums) (sym c.as_slice-3.ensures.value) c.requires.alive
 
 pub asked-requires : goal.asked-requires
 asked-requires c =

@@ -7,7 +7,7 @@ use Rattle.fvn_acunify_product.specs.Tags.{tags_left}
 use Rattle.fvn_combine_drawing.specs.CombineCandidatesSharing.{AreSharedClasses}
 use Rattle.fvn_combine_drawing.specs.CombineCandidatesTags.{tag_counts}
 use Rattle.fvn_combine_drawing.specs.CombineCandidatesDeclared.sharing.SharedClass.{SharedClass}
-use Rattle.fvn_combine_leaves.specs.Bases.{AreBases}
+use Rattle.fvn_combine_leaves.specs.Bases.{AreBases, HaveAlive}
 use Rattle.fvn_combine_leaves.specs.Leaves.{IsLeaf}
 use Rattle.fvn_combine_inferring.specs.Inferred.{TellLabels}
 use Rattle.fvn_combine_loose.specs.Loose.{IsLooseClass}
@@ -39,6 +39,7 @@ returns-clause-opened c =
       labels = subst (TellLabels k.declarations k.table s k.sorted) (sym c.from_vec.ensures) c.requires.labels;
       as_many = ap length c.from_vec.ensures ∙ c.requires.as_many;
       bases = subst (AreBases c.args.reading.sums) (sym c.from_vec-2.ensures) c.requires.bases;
+      alive = subst (HaveAlive k.declarations k.table s c.args.reading.sums) (sym c.from_vec-2.ensures) c.requires.alive;
       shared = subst (AreSharedClasses k.declarations k.table (class_of s) k.sorted) (sym c.from_vec-3.ensures) exact;
       counts = c.in_ok-tags.ensures.counts ∙ c.in_ok-counts.ensures ∙ ap tag_counts (c.as_slice.ensures.value ∙ sym c.from_vec-3.ensures);
       turning = λ v e. cc;

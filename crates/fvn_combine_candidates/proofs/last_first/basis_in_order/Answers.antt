@@ -10,8 +10,11 @@ pub returns-in-Ok : goal.returns-in-Ok
 returns-in-Ok c =
     let same = turned_minimal c.args.sums.now.system c.in_ok-turned.turned c.in_ok-turned.ensures in
     record {
-      exact = λ v. (λ m. (same v).0 ((c.in-Ok.ensures.exact v).0 m), λ h. (c.in-Ok.ensures.exact v).1 ((same v).1 h));
-      ordered = c.in-Ok.ensures.ordered;
-      few = omega (arith, c.in-Ok.ensures.few, c.requires.most);
-      narrow = c.in-Ok.ensures.narrow;
+      is_basis = record {
+        minimal = λ v m. (same v).0 ((c.in-Ok.ensures.exact v).0 m);
+        ordered = c.in-Ok.ensures.ordered;
+        few = omega (arith, c.in-Ok.ensures.few, c.requires.most);
+        narrow = c.in-Ok.ensures.narrow;
+      };
+      all = λ v h. (c.in-Ok.ensures.exact v).1 ((same v).1 h);
     }

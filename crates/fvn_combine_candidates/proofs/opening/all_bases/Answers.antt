@@ -14,8 +14,8 @@ returns-in_err-basis-clause-refused c =
 
 pub loop-i-preserved : goal.loop-i-preserved
 loop-i-preserved c =
-    subst (AreBasesBelow IsKeptBasis c.args.sums.now (c.loop-i.i + 1)) (sym c.in_ok-push.ensures.items)
-    (more_bases IsKeptBasis c.args.sums.now c.loop-i.i c.loop-i.bases.items c.index-sums-i.result c.in_ok-basis.basis c.loop-i-test.true c.index-sums-i.is c.loop-i.invariant c.in_ok-basis.ensures.exact)
+    subst (AreBasesBelow (λ e. IsKeptBasis e.system) c.args.sums.now (c.loop-i.i + 1)) (sym c.in_ok-push.ensures.items)
+    (more_bases (λ e. IsKeptBasis e.system) c.args.sums.now c.loop-i.i c.loop-i.bases.items c.index-sums-i.result c.in_ok-basis.basis c.loop-i-test.true c.index-sums-i.is c.loop-i.invariant c.in_ok-basis.ensures.exact)
 
 pub returns-clause-exact : goal.returns-clause-exact
 returns-clause-exact c = all_kept c.args.sums.now c.loop-i.i c.loop-i.bases.items (omega arith) (omega arith) c.loop-i.invariant

@@ -3,4 +3,4 @@ use Rattle.fvn_combine_candidates.specs.inner.Walking.{IsKeptBasis, AreBasesBelo
 use Rattle.fvn_combine_candidates.proofs.opening.all_bases.Given as goal
 
 abbrev pub invariant-loop-i : goal.invariant-loop-i
-invariant-loop-i l = AreBasesBelow IsKeptBasis l.sums l.i l.bases.items
+invariant-loop-i l = AreBasesBelow (λ e. IsKeptBasis e.system) l.sums l.i l.bases.items

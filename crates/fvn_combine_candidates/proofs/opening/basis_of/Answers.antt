@@ -5,11 +5,14 @@ use Rattle.fvn_combine_candidates.proofs.opening.basis_of.Goals as goal
 
 pub returns-in-Ok-clause-exact : goal.returns-in-Ok-clause-exact
 returns-in-Ok-clause-exact c = record {
-  is_basis = record {
-    exact = c.in-Ok.ensures.exact;
-    ordered = c.in-Ok.ensures.ordered;
-    few = omega (arith, c.in-Ok.ensures.few);
-    narrow = c.in-Ok.ensures.narrow;
+  whole = record {
+    is_basis = record {
+      minimal = λ v m. (c.in-Ok.ensures.exact v).0 m;
+      ordered = c.in-Ok.ensures.ordered;
+      few = omega (arith, c.in-Ok.ensures.few);
+      narrow = c.in-Ok.ensures.narrow;
+    };
+    all = λ v m. (c.in-Ok.ensures.exact v).1 m;
   };
   few = c.in-Ok.ensures.few;
   kept = kept_system c.args.sums.now.system c.basis.result c.in-Ok.solutions c.in-Ok.is c.basis.ensures.too_many c.basis.ensures.too_wide;

@@ -11,7 +11,7 @@ use Rattle.fvn_combine_candidates.proofs.turning.choices_of.Goals as goal
 pub choices_among-requires : goal.choices_among-requires
 choices_among-requires c = record {
   theory = c.in_ok-theory.ensures.whole;
-  minimal = λ v m. subst (λ (s : System). IsMinimal s.columns (rows_of s) v) (sym c.in_ok-theory.ensures.system) ((c.requires.basis.exact v).0 m);
+  minimal = λ v m. subst (λ (s : System). IsMinimal s.columns (rows_of s) v) (sym c.in_ok-theory.ensures.system) (c.requires.basis.minimal v m);
   few = c.requires.basis.few;
   narrow = c.requires.basis.narrow;
 }

@@ -9,4 +9,4 @@ pub touched_question-requires-clause-wide : goal.touched_question-requires-claus
 touched_question-requires-clause-wide c = all_wide c.args.sig.now c.args.table.now c.recall_well_made.ensures c.args.state.now c.requires.near.closed c.args.reading.now c.requires.reading c.args.heads.now c.args.bases.now c.requires.bases
 
 pub returns : goal.returns
-returns c = asked_on_touched c.args.sig.now c.args.table.now c.recall_well_made.ensures c.args.state.now c.requires.near.closed c.args.reading.now c.requires.reading c.args.heads.now c.args.bases.now c.requires.bases c.requires.near c.touched_question.result c.touched_question.ensures
+returns c = asked_on_touched c.args.sig.now c.args.table.now c.recall_well_made.ensures c.args.state.now c.requires.near.closed c.args.reading.now c.requires.reading c.args.heads.now c.args.bases.now c.requires.bases c.requires.alive c.requires.near c.touched_question.result c.touched_question.ensures

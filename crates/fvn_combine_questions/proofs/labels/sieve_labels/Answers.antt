@@ -11,5 +11,5 @@ sieve-requires-clause-wide c = all_wide c.args.sig.now c.args.table.now c.recall
 
 pub returns-clause-labels : goal.returns-clause-labels
 returns-clause-labels c =
-    labels_are c.args.sig.now c.args.table.now c.recall_well_made.ensures c.args.state.now c.requires.closed c.args.reading.now c.requires.reading c.args.bases.now c.requires.bases
+    labels_are c.args.sig.now c.args.table.now c.recall_well_made.ensures c.args.state.now c.requires.closed c.args.reading.now c.requires.reading c.args.bases.now c.requires.bases c.requires.alive
     c.sieve.new.labels.items c.args.heads.now c.args.labels.now.items c.sieve.ensures.kept c.sieve.ensures.within
