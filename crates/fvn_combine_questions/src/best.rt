@@ -4,7 +4,7 @@
 //! others then, the pair is asked whose larger class has the greatest rank, by numbers that the caller gives each class. Where
 //! classes are ranked by what stands in them, what stands on top is asked of first; where that cannot be one, nothing need be
 //! asked of what it holds. Classes of which two operators are noted come before all others: that they are two is told at once.
-ghost use Rattle.std.specs.Prelude.{◌≡◌, ◌<◌, length, None, IfSome, IsTrue, IsFalse};
+ghost use Rattle.std.specs.Prelude.{◌≡◌, ◌+◌, ◌<◌, length, None, IfSome, IsTrue, IsFalse};
 ghost use Rattle.fvn_combine_nodes.specs.States.{IsNaming};
 ghost use Rattle.fvn_combine_questions.specs.inner.Past.{IsOpenPairOr};
 ghost use Rattle.fvn_combine_leaves.specs.Users.{IsWholeSums, IsWhole};
@@ -168,8 +168,21 @@ fn best_of_column(
     best
 }
 
+// The column that is gone through at this step: the first ones first where single summands are sought, else the last ones.
+fn column_at(count: usize, step: usize, single: bool) -> usize
+    requires { step < count }
+    ensures within { result < count }
+    ensures backwards { IsFalse single → result + step + 1 ≡ count }
+{
+    if single {
+        return step;
+    }
+    backwards(count, step)
+}
+
 // The best of a pair from before and of the open ones of two classes that the solution has and that may be constants of the
-// operator, or of those alone whose first class is a single summand: of pairs of one rank the last columns first.
+// operator, or of those alone whose first class is a single summand: of pairs of one rank those of the last columns, or of
+// the first single summands.
 fn best_of_solution(
     asking: &Asking<'_>,
     sums: &Sums,
@@ -200,7 +213,7 @@ fn best_of_solution(
     let mut best = before;
     let count = sums.columns.len();
     for step in 0..count {
-        let i = backwards(count, step);
+        let i = column_at(count, step, single);
         if !is_asked_of(asking, sums, v, i, single) {
             continue;
         }
