@@ -200,9 +200,10 @@ const CONSTANTS: &str =
 // A variable beside constants against another one beside others, with no identity and with one: there are many minimal
 // solutions of two constants, which are never taken. An element beside a variable against twelve elements, and against these
 // beside a variable; a variable that stands twice beside constants against one that stands three times; constants of which the
-// other side has half; and terms of two operators in place of constants. Then twelve terms of two operators, or constants, against
-// twelve terms of another one: 169 minimal solutions, of which the 25 are listed that have no two different ones. All numbers of
-// unifiers are Maude's.
+// other side has half; and terms of two operators in place of constants. Fifteen constants and terms beside a variable that
+// stands twice, or three times: each is taken in one way, and other solutions have it more often. Then twelve terms of two
+// operators, or constants, against twelve terms of another one: 169 minimal solutions, of which the 25 are listed that have no
+// two different ones. All numbers of unifiers are Maude's.
 const SEARCHED_OF_CONSTANTS: &str =
     "general A0 f r g r h r i r j r k r = A1 l r m r n r o r => few | 1 2
 general A0 f s g s h s i s j s k s = A1 l s m s n s o s => few | 1 2
@@ -211,6 +212,8 @@ general A0 B1 r = A2 f r g r h r i r j r k r l r m r n r o r p r q r => few | 1 
 general A0 A0 r f r g r h r i r j r = A1 A1 r A1 r => few | 1 2
 general A0 f r g r h r i r j r k r l r m r n r o r p r q r = A1 f r g r h r i r j r k r => few | 1 1
 general A0 f u r g u r h u r i u r j u r = A9 A1 f v r A2 f v r A3 f v r A4 f v r A5 f v r => few | 1 2
+general A0 A0 r = A1 A1 r A1 r f r g r h r i r j r k r l r m r n r o r p r q r t r f u r f g v r => few | 1 2
+general A0 A0 r f r g r h r i r j r k r l r m r n r o r p r q r t r f u r f g v r = A1 A1 r A1 r => few | 1 2
 general A0 f u r g u r h u r i u r j u r k u r l u r m u r n u r o u r p u r q u r = Ad A1 f v r A2 f v r A3 f v r A4 f v r A5 f v r A6 f v r A7 f v r A8 f v r A9 f v r Aa f v r Ab f v r Ac f v r => few | 1 2
 general A0 f u r g u r h u r i u r j u r k u r l r m r n r o r p r q r = Ad A1 f v r A2 f v r A3 f v r A4 f v r A5 f v r A6 f v r A7 f v r A8 f v r A9 f v r Aa f v r Ab f v r Ac f v r => few | 1 2
 general A0 f r g r h r i r j r k r l r m r n r o r p r q r = Ad f u r g u r h u r i u r j u r k u r l u r m u r n u r o u r p u r q u r => few | 1 2
@@ -222,6 +225,8 @@ general A0 f s g s h s i s j s k s l s m s n s o s p s q s = Ad f u s g u s h u 
 100 200 A0 A0 r f r g r h r i r j r = A1 A1 r A1 r => complete 2 | A0 A1 v = f g r h r i r j r A2 r A2 r A2 r f g r h r i r j r A2 r A2 r v; A0 A1 v = f g r h r i r j r f g r h r i r j r v
 100 200 A0 f r g r h r i r j r k r l r m r n r o r p r q r = A1 f r g r h r i r j r k r => complete 1 | A0 A1 v = A0 A0 l r m r n r o r p r q r v
 100 200 A0 f u r g u r h u r i u r j u r = A9 A1 f v r A2 f v r A3 f v r A4 f v r A5 f v r => complete 2
+100 200 A0 A0 r = A1 A1 r A1 r f r g r h r i r j r k r l r m r n r o r p r q r t r f u r f g v r => complete 2 | A0 A1 v = f g r h r i r j r k r l r m r n r o r p r q r t r f u r f g v r A2 r A2 r A2 r f g r h r i r j r k r l r m r n r o r p r q r t r f u r f g v r A2 r A2 r v; A0 A1 v = f g r h r i r j r k r l r m r n r o r p r q r t r f u r f g v r f g r h r i r j r k r l r m r n r o r p r q r t r f u r f g v r v
+100 200 A0 A0 r f r g r h r i r j r k r l r m r n r o r p r q r t r f u r f g v r = A1 A1 r A1 r => complete 2 | A0 A1 v = f g r h r i r j r k r l r m r n r o r p r q r t r f u r f g v r A2 r A2 r A2 r f g r h r i r j r k r l r m r n r o r p r q r t r f u r f g v r A2 r A2 r v; A0 A1 v = f g r h r i r j r k r l r m r n r o r p r q r t r f u r f g v r f g r h r i r j r k r l r m r n r o r p r q r t r f u r f g v r v
 100 200 A0 f u r g u r h u r i u r j u r k u r l u r m u r n u r o u r p u r q u r = Ad A1 f v r A2 f v r A3 f v r A4 f v r A5 f v r A6 f v r A7 f v r A8 f v r A9 f v r Aa f v r Ab f v r Ac f v r => complete 2 | A0 Ad v = A1 f v A2 f v r A3 f v r A4 f v r A5 f v r A6 f v r A7 f v r A8 f v r A9 f v r Aa f v r Ab f v r Ac f v r Ae r f u g u r h u r i u r j u r k u r l u r m u r n u r o u r p u r q u r Ae r v; A0 Ad v = A1 f v A2 f v r A3 f v r A4 f v r A5 f v r A6 f v r A7 f v r A8 f v r A9 f v r Aa f v r Ab f v r Ac f v r f u g u r h u r i u r j u r k u r l u r m u r n u r o u r p u r q u r v
 100 200 A0 f u r g u r h u r i u r j u r k u r l r m r n r o r p r q r = Ad A1 f v r A2 f v r A3 f v r A4 f v r A5 f v r A6 f v r A7 f v r A8 f v r A9 f v r Aa f v r Ab f v r Ac f v r => complete 2 | A0 Ad v = A1 f v A2 f v r A3 f v r A4 f v r A5 f v r A6 f v r A7 f v r A8 f v r A9 f v r Aa f v r Ab f v r Ac f v r Ae r f u g u r h u r i u r j u r k u r l r m r n r o r p r q r Ae r v; A0 Ad v = A1 f v A2 f v r A3 f v r A4 f v r A5 f v r A6 f v r A7 f v r A8 f v r A9 f v r Aa f v r Ab f v r Ac f v r f u g u r h u r i u r j u r k u r l r m r n r o r p r q r v
 100 200 A0 f r g r h r i r j r k r l r m r n r o r p r q r = Ad f u r g u r h u r i u r j u r k u r l u r m u r n u r o u r p u r q u r => complete 2 | A0 Ad v = f u g u r h u r i u r j u r k u r l u r m u r n u r o u r p u r q u r Ae r f g r h r i r j r k r l r m r n r o r p r q r Ae r v; A0 Ad v = f u g u r h u r i u r j u r k u r l u r m u r n u r o u r p u r q u r f g r h r i r j r k r l r m r n r o r p r q r v
