@@ -65,7 +65,7 @@ const SEARCHED_OF_BAGS: &str = "search A0 B1 t = g => few | 1 1
 search A0 B1 t = g h t => few | 3 2
 search A0 B1 t = g h i j k l m n o p q r s t t t t t t t t t t t t => few | 25 13
 search A0 A1 B2 t t = g h i t t => few | 11 6
-search A0 A1 B2 t t = A3 A4 B5 t t => few | 1 14
+search A0 A1 B2 t t = A3 A4 B5 t t => few | 1 7
 search A0 A1 t = g => few | 1 0
 search A0 A1 t = B2 => few | 1 1
 search B0 B1 t = g h t => few | 1 4
