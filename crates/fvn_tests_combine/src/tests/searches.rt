@@ -53,7 +53,7 @@ search A0 A1 l A2 m A3 l = f => few | 7 4";
 // two in 64 ways, of which each is a choice, and nothing is asked: a row with no room shows both numbers as they are.
 const SEARCHED_WITH_ELEMENTS: &str = "search A0 A1 l = B2 B3 l B4 l => few | 1 8
 search A0 A1 l = B2 B3 l B4 l B5 l B6 l B7 l => 1 64 | 0 0
-search B0 A1 l = B2 A3 l => few | 1 4
+search B0 A1 l = B2 A3 l => few | 1 2
 search B0 B1 l = B2 B3 l => few | 3 2
 search B0 f l = B1 A2 l => few | 3 2
 search B0 f k = B1 A2 k => few | 3 2";
@@ -65,7 +65,7 @@ const SEARCHED_OF_BAGS: &str = "search A0 B1 t = g => few | 1 1
 search A0 B1 t = g h t => few | 3 2
 search A0 B1 t = g h i j k l m n o p q r s t t t t t t t t t t t t => few | 25 13
 search A0 A1 B2 t t = g h i t t => few | 11 6
-search A0 A1 B2 t t = A3 A4 B5 t t => few | 1 14
+search A0 A1 B2 t t = A3 A4 B5 t t => few | 1 7
 search A0 A1 t = g => few | 1 0
 search A0 A1 t = B2 => few | 1 1
 search B0 B1 t = g h t => few | 1 4
@@ -132,10 +132,10 @@ const TOWERS: &str = "general A0 A1 h j A2 h k A3 h j A4 h k = A5 A6 i => few | 
 general A0 A1 h j A2 h k A3 h j A4 h k A5 h j A6 h k = A7 A8 i => few | 3 2
 general A0 A1 h j A2 h k A3 h j A4 h k = A5 A6 k => few | 3 48
 general A0 A1 h j A2 h k A3 h j A4 h k = A5 A6 h j A7 h k A8 h j A9 h k => few | 61 145
-general A0 A1 h j A2 h i A3 h j A4 h i = A5 A6 h => few | 23 12
-general A0 A1 h j A2 h i A3 h j A4 h i A5 i = A6 j l i => few | 15 18
+general A0 A1 h j A2 h i A3 h j A4 h i = A5 A6 h => few | 11 2
+general A0 A1 h j A2 h i A3 h j A4 h i A5 i = A6 j l i => few | 17 18
 general A0 A1 i j A2 i h A3 i j A4 i h A5 i j A6 i h = A7 l => few | 1 0
-general A0 A1 h A2 i A1 k A2 h A3 i A2 k = A4 A5 h A6 i A5 k A6 h A7 i A6 k => few | 559 2304
+general A0 A1 h A2 i A1 k A2 h A3 i A2 k = A4 A5 h A6 i A5 k A6 h A7 i A6 k => few | 563 2304
 general A0 A1 i A2 h A2 i A3 h = A4 A5 i A6 h A6 i A7 h => few | 240 1753
 100 200 A0 A1 h j A2 h k A3 h j A4 h k = A5 A6 i => complete 2 | A0 A1 m A2 m A3 m A4 m A5 m A6 m = A0 A1 m A2 m A3 m A4 m j A4 h A3 j A2 h A0 A1 h k h k m g m; A0 A1 m A2 m A3 m A4 m A5 m A6 m = A0 A1 m A2 m A3 m A4 m g m j A4 h A3 j A2 h A0 A1 h k h k m
 100 200 A0 A1 h j A2 h k A3 h j A4 h k A5 h j A6 h k = A7 A8 i => complete 2
@@ -206,7 +206,7 @@ const CONSTANTS: &str =
 // two different ones. All numbers of unifiers are Maude's.
 const SEARCHED_OF_CONSTANTS: &str =
     "general A0 f r g r h r i r j r k r = A1 l r m r n r o r => few | 1 2
-general A0 f s g s h s i s j s k s = A1 l s m s n s o s => few | 1 2
+general A0 f s g s h s i s j s k s = A1 l s m s n s o s => few | 1 1
 general A0 B1 r = f g r h r i r j r k r l r m r n r o r p r q r => few | 23 12
 general A0 B1 r = A2 f r g r h r i r j r k r l r m r n r o r p r q r => few | 1 14
 general A0 A0 r f r g r h r i r j r = A1 A1 r A1 r => few | 1 2
@@ -217,7 +217,7 @@ general A0 A0 r f r g r h r i r j r k r l r m r n r o r p r q r t r f u r f g v 
 general A0 f u r g u r h u r i u r j u r k u r l u r m u r n u r o u r p u r q u r = Ad A1 f v r A2 f v r A3 f v r A4 f v r A5 f v r A6 f v r A7 f v r A8 f v r A9 f v r Aa f v r Ab f v r Ac f v r => few | 1 2
 general A0 f u r g u r h u r i u r j u r k u r l r m r n r o r p r q r = Ad A1 f v r A2 f v r A3 f v r A4 f v r A5 f v r A6 f v r A7 f v r A8 f v r A9 f v r Aa f v r Ab f v r Ac f v r => few | 1 2
 general A0 f r g r h r i r j r k r l r m r n r o r p r q r = Ad f u r g u r h u r i u r j u r k u r l u r m u r n u r o u r p u r q u r => few | 1 2
-general A0 f s g s h s i s j s k s l s m s n s o s p s q s = Ad f u s g u s h u s i u s j u s k u s l u s m u s n u s o u s p u s q u s => few | 1 2
+general A0 f s g s h s i s j s k s l s m s n s o s p s q s = Ad f u s g u s h u s i u s j u s k u s l u s m u s n u s o u s p u s q u s => few | 1 1
 100 200 A0 f r g r h r i r j r k r = A1 l r m r n r o r => complete 2 | A0 A1 v = l m r n r o r A2 r f g r h r i r j r k r A2 r v; A0 A1 v = l m r n r o r f g r h r i r j r k r v
 100 200 A0 f s g s h s i s j s k s = A1 l s m s n s o s => complete 1 | A0 A1 v = l m s n s o s A2 s f g s h s i s j s k s A2 s v
 100 200 A0 B1 r = f g r h r i r j r k r l r m r n r o r p r q r => complete 12
