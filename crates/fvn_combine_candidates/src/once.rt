@@ -196,7 +196,7 @@ fn is_dead(heads: &[Option<OpId>], sums: &Sums, parts: &[u32]) -> bool {
     false
 }
 
-// Whether the solution is in each choice: it is zero in all these columns, where there is one that is so.
+// Whether the solution is in each choice: it is zero in all these columns. Without a list no solution is told to be so.
 fn is_in_each(open: &Option<Vec<usize>>, parts: &[u32]) -> bool {
     match open {
         None => false,
@@ -328,8 +328,8 @@ fn is_single(heads: &[Option<OpId>], sums: &Sums, bounds: &ColumnBounds, j: usiz
     is_headed(heads, sums.operator, sums.columns.as_slice()[j])
 }
 
-// Whether some class may have several summands, of which its variables' sorts ask something: then these have their sorts in
-// many ways, where all that may be the identity are taken.
+// Whether some class that may have several summands has a variable whose sort asks something of them: then they have their
+// sorts in many ways, where all that may be the identity are taken.
 fn are_ways_many(
     sig: &Signature,
     table: &Table,
@@ -353,7 +353,8 @@ fn are_ways_many(
     false
 }
 
-// Whether it is not asked which solutions are in each choice: the operator is not neutral, and sorts are had in many ways.
+// Whether it is not asked which solutions are in each choice: the operator is not neutral, and summands have their sorts in
+// many ways.
 fn is_unasked(
     sig: &Signature,
     table: &Table,
@@ -371,8 +372,8 @@ fn is_unasked(
     are_ways_many(sig, table, state, headed, sums, bounds, e)
 }
 
-/// The columns of which a solution has none that is in each choice: those whose classes do not take the operator's identity, and
-/// those that may be constants'. Nothing where the operator has none, or where sorts are had in many ways.
+/// The columns in which a solution that is in each choice is zero: those whose classes do not take the operator's identity, and
+/// those that may be constants'. Nothing where there is no identity, or where summands have their sorts in many ways.
 pub(crate) fn open_columns(
     alloc: Global,
     sig: &Signature,
