@@ -169,8 +169,10 @@ const SOLVED: &str = "4 20 A0 A1 k = A2 A3 k => unifiers 4
 100 1000 A0* = A1* => complete 1 | A0 A1 i = A0 A0 i
 100 1000 f* = g* => complete 0";
 
-// The same over sums that are not neutral: 25 solutions are listed where all but one stand in columns of elements.
-const SOLVED_WITH_ELEMENTS: &str = "4 20 A0 A1 l A2 l A3 l A4 l = A5 A6 l A7 l A8 l A9 l => basis 0
+// The same over sums that are not neutral: 25 solutions are listed where all may be the identity, and where all but one
+// stand in columns of elements.
+const SOLVED_WITH_ELEMENTS: &str =
+    "4 20 A0 A1 l A2 l A3 l A4 l = A5 A6 l A7 l A8 l A9 l => complete 1
 4 20 B0 B1 l B2 l A3 l A4 l = A5 B6 l B7 l B8 l A9 l => unifiers 4
 4 20 B0 B1 l B2 l B3 l A4 l = B5 B6 l B7 l B8 l A9 l => unifiers 4
 100 200 A0 A1 l = A2 A3 l => complete 1 | A0 A1 i A2 i A3 i = A1 A3 l A2 A4 l i A1 A2 l i A3 A4 l i
