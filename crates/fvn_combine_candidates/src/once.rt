@@ -328,52 +328,71 @@ fn is_single(heads: &[Option<OpId>], sums: &Sums, bounds: &ColumnBounds, j: usiz
     is_headed(heads, sums.operator, sums.columns.as_slice()[j])
 }
 
-// Whether some class that may have several summands has a variable whose sort asks something of them: then they have their
-// sorts in many ways, where all that may be the identity are taken.
-fn are_ways_many(
+// The columns that are so.
+fn single_columns(
+    alloc: Global,
+    heads: &[Option<OpId>],
+    sums: &Sums,
+    bounds: &ColumnBounds,
+) -> Result<Vec<usize>, NoMemory> {
+    let mut list = Vec::new(alloc);
+    for j in 0..sums.columns.len() {
+        if !is_single(heads, sums, bounds, j) {
+            continue;
+        }
+        list.push(j)?;
+    }
+    Ok(list)
+}
+
+// Whether the class of each column that is neither single nor among these others has variables of whole sorts alone, and each
+// of the others is single: else there are many choices, or summands have their sorts in many ways.
+fn are_ways_few(
     sig: &Signature,
     table: &Table,
     state: &State,
-    headed: HeadedSums,
     sums: &Sums,
-    bounds: &ColumnBounds,
     e: OpId,
+    single: &[usize],
+    others: &[usize],
 ) -> bool
     requires { IsClosed sig.now table.now state.now }
 {
     let columns = sums.columns.as_slice();
     for j in 0..columns.len() {
-        if is_single(headed.heads, sums, bounds, j) {
+        if has(single, j) {
             continue;
         }
+        if has(others, j) {
+            return false;
+        }
         if !is_whole(sig, table, state, sums.operator, e, columns[j]) {
-            return true;
+            return false;
         }
     }
-    false
+    true
 }
 
-// Whether it is not asked which solutions are in each choice: the operator is not neutral, and summands have their sorts in
-// many ways.
-fn is_unasked(
+// Whether it is asked which solutions are in each choice: the operator is neutral, or the ways are few.
+fn is_asked(
     sig: &Signature,
     table: &Table,
     state: &State,
-    headed: HeadedSums,
     sums: &Sums,
-    bounds: &ColumnBounds,
     e: OpId,
+    single: &[usize],
+    others: &[usize],
 ) -> bool
     requires { IsClosed sig.now table.now state.now }
 {
     if is_neutral(sig, sums.operator) {
-        return false;
+        return true;
     }
-    are_ways_many(sig, table, state, headed, sums, bounds, e)
+    are_ways_few(sig, table, state, sums, e, single, others)
 }
 
 /// The columns in which a solution that is in each choice is zero: those whose classes do not take the operator's identity, and
-/// those that may be constants'. Nothing where there is no identity, or where summands have their sorts in many ways.
+/// those that may be constants'. Nothing where there is no identity, or where it is not asked.
 pub(crate) fn open_columns(
     alloc: Global,
     sig: &Signature,
@@ -390,10 +409,19 @@ pub(crate) fn open_columns(
     match sig.identity(sums.operator) {
         None => Ok(None),
         Some(e) => {
-            if is_unasked(sig, table, state, headed, sums, bounds, e) {
+            let others = other_columns(alloc, sig, table, state, headed.reading, sums, e)?;
+            let single = single_columns(alloc, headed.heads, sums, bounds)?;
+            if !is_asked(
+                sig,
+                table,
+                state,
+                sums,
+                e,
+                single.as_slice(),
+                others.as_slice(),
+            ) {
                 return Ok(None);
             }
-            let others = other_columns(alloc, sig, table, state, headed.reading, sums, e)?;
             let list = with_constants(others, headed, sums)?;
             Ok(Some(list))
         }
