@@ -317,15 +317,47 @@ fn with_constants(
     Ok(list)
 }
 
-// Whether the class of column j has at most one summand: it is a constant, or sorts ask it.
-fn is_single(heads: &[Option<OpId>], sums: &Sums, bounds: &ColumnBounds, j: usize) -> bool {
+// Whether some coefficient of the row is greater than 1, or smaller than -1.
+fn has_repeated(row: &Row) -> bool {
+    for coefficient in row.coefficients.as_slice() {
+        if *coefficient > 1 {
+            return true;
+        }
+        if *coefficient < -1 {
+            return true;
+        }
+    }
+    false
+}
+
+// Whether no row has a class several times.
+fn are_linear(sums: &Sums) -> bool {
+    for row in sums.system.rows.as_slice() {
+        if has_repeated(row) {
+            return false;
+        }
+    }
+    true
+}
+
+// Whether the class of column j has at most one summand: it is a constant; or sorts ask it, where no class is added several times.
+fn is_single(
+    heads: &[Option<OpId>],
+    sums: &Sums,
+    bounds: &ColumnBounds,
+    linear: bool,
+    j: usize,
+) -> bool {
     if j >= sums.columns.len() {
         return true;
     }
-    if has(bounds.at_most_one.as_slice(), j) {
+    if is_headed(heads, sums.operator, sums.columns.as_slice()[j]) {
         return true;
     }
-    is_headed(heads, sums.operator, sums.columns.as_slice()[j])
+    if !linear {
+        return false;
+    }
+    has(bounds.at_most_one.as_slice(), j)
 }
 
 // The columns that are so.
@@ -335,9 +367,10 @@ fn single_columns(
     sums: &Sums,
     bounds: &ColumnBounds,
 ) -> Result<Vec<usize>, NoMemory> {
+    let linear = are_linear(sums);
     let mut list = Vec::new(alloc);
     for j in 0..sums.columns.len() {
-        if !is_single(heads, sums, bounds, j) {
+        if !is_single(heads, sums, bounds, linear, j) {
             continue;
         }
         list.push(j)?;
