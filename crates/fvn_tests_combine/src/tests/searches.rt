@@ -72,7 +72,9 @@ search B0 B1 t = g h t => few | 1 4
 search B0 B1 t = A2 A3 t A4 t A5 t A6 t A7 t => few | 1 64
 search A0 B1 B2 t t = A3 B4 B5 t t => few | 1 5
 search B0 B1 B2 B3 t t t = B4 B5 B6 B7 t t t => few | 1 1
-search B0 B1 B2 B3 t t t u = B4 B5 B6 B7 t t t u => few | 1 1";
+search B0 B1 B2 B3 t t t u = B4 B5 B6 B7 t t t u => few | 1 1
+search B0 B1 B2 B3 B4 t t t t = B5 B6 B7 B8 B9 t t t t => few | 1 1
+search A0 B1 B2 B3 B4 t t t t = A5 B6 B7 B8 B9 t t t t => few | 1 17";
 
 // The same over two sums with different identities, where nearly every class is added by both: it is asked of none
 // whether it is an identity. First families where each size has one summand more: such a class is asked only whether it
