@@ -3,7 +3,8 @@
 //! Pairs with a single summand are asked of first: the answers tell which solutions are never taken. Of these, and of the
 //! others then, the pair is asked whose larger class has the greatest rank, by numbers that the caller gives each class. Where
 //! classes are ranked by what stands in them, what stands on top is asked of first; where that cannot be one, nothing need be
-//! asked of what it holds. Classes of which two operators are noted come before all others: that they are two is told at once.
+//! asked of what it holds. Classes of which two operators are noted come before all others, and those whose numbers are odd, as
+//! those of classes without variables are: that they are two is told at once.
 ghost use Rattle.std.specs.Prelude.{◌≡◌, ◌+◌, ◌<◌, length, None, IfSome, IsTrue, IsFalse};
 ghost use Rattle.fvn_combine_nodes.specs.States.{IsNaming};
 ghost use Rattle.fvn_combine_questions.specs.inner.Past.{IsOpenPairOr};
@@ -68,14 +69,25 @@ fn are_noted_apart(heads: &[Option<OpId>], k: usize, l: usize) -> bool {
     }
 }
 
+// Whether two ranks are odd: neither class has a variable.
+fn are_odd(one: usize, other: usize) -> bool {
+    if one % 2 == 0 {
+        return false;
+    }
+    other % 2 == 1
+}
+
 // The larger and the smaller one of the ranks of classes k and l, or the greatest numbers where two operators are noted of
-// them.
+// them, or both ranks are odd.
 fn ranks_of_pair(asking: &Asking<'_>, k: usize, l: usize) -> (usize, usize) {
+    let one = rank_of(asking.ranks, k);
+    let other = rank_of(asking.ranks, l);
+    if are_odd(one, other) {
+        return (usize::MAX, usize::MAX);
+    }
     if are_noted_apart(asking.heads, k, l) {
         return (usize::MAX, usize::MAX);
     }
-    let one = rank_of(asking.ranks, k);
-    let other = rank_of(asking.ranks, l);
     (one.max(other), one.min(other))
 }
 
