@@ -223,11 +223,17 @@ impl Tree {
         ensures falls { OnOk result (weight self.new < weight self.old) }
         ensures no_memory { OnErr result (self.new ≡ self.old) }
     {
-        let apart = match self.states.as_slice().last() {
+        let left = match self.states.as_slice().last() {
             Some(top) => ask_all_apart(alloc, sig, table, top, pairs)?,
             None => return Ok(()),
         };
-        replace_top(&mut self.states, Answers { same: None, apart })?;
+        replace_top(
+            &mut self.states,
+            Answers {
+                same: None,
+                apart: left,
+            },
+        )?;
         Ok(())
     }
 }

@@ -1,5 +1,6 @@
 -- What may be parted is so under a unifier that stands for each.
-use Rattle.std.proofs.Common.{arith}
+use Rattle.std.proofs.Common.{◌∙◌, sym, arith}
+use Rattle.std.proofs.lemmas.Bool.{eqb-false}
 use Rattle.fvn_combine.proofs.Standing.{parted_open}
 use Rattle.fvn_combine.proofs.looking.look_at.Goals as goal
 
@@ -7,4 +8,6 @@ pub returns : goal.returns
 returns c =
     let k = c.args.task.now in
     let s = c.args.state.now in
-    parted_open k c.recall.ensures c.loose_classes_part.ensures s c.requires c.in_ok-pairs.pairs.items (let some = c.if-is_empty.false in let n = c.in_ok-pairs.pairs.ok.0 in omega (arith, some, n)) c.in_ok-pairs.ensures
+    let differ = eqb-false _ 0 (sym c.is_empty.ensures ∙ c.if-is_empty.false) in
+    let n = c.in_ok-pairs.pairs.ok.0 in
+    parted_open k c.recall.ensures c.loose_classes_part.ensures s c.requires c.in_ok-pairs.pairs.items (omega (arith, differ, n)) c.in_ok-pairs.ensures

@@ -18,7 +18,7 @@ pub returns-then-not-task : goal.returns-then-not-task
 returns-then-not-task c = subst (All (MayPartOpen c.args.task.now c.args.state.now)) (sym c.new.ensures.items) (All-nil (MayPartOpen c.args.task.now c.args.state.now))
 
 pub returns-then-is_empty : goal.returns-then-is_empty
-returns-then-is_empty c = subst (All (MayPartOpen c.args.task.now c.args.state.now)) (sym c.new.ensures.items) (All-nil (MayPartOpen c.args.task.now c.args.state.now))
+returns-then-is_empty c = subst (All (MayPartOpen c.args.task.now c.args.state.now)) (sym c.new-then-is_empty.ensures.items) (All-nil (MayPartOpen c.args.task.now c.args.state.now))
 
 pub returns : goal.returns
 returns c =
