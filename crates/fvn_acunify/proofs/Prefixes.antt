@@ -4,13 +4,13 @@ use Rattle.std.proofs.lemmas.Bool.{cond-true, cond-false, eq-eqb, ne_eqb, cases_
 use Rattle.std.proofs.lemmas.Nat.{shr-shr, pow_pos, div-add-mod', le-div}
 use Rattle.std.proofs.lemmas.List.{drop_more, drop_all, get_or_past, get_or_default, get_or-map, get_or-replicate, length-map, length-replicate}
 use Rattle.std.proofs.lemmas.List.Elements.{All-head, All-tail, All-cons, All-same, All-nil}
-use Rattle.std.proofs.lemmas.List.Sums.{sum_by-append}
+use Rattle.std.proofs.lemmas.List.Sums.{sum_by-append, get_or-le-sum_by}
 use Rattle.fvn_lindio.specs.Systems.{vectors_of}
 use Rattle.fvn_lindio.specs.declared.system.Solution.{Solution}
 use Rattle.fvn_acunify.specs.declared.theory.ColumnBounds.{ColumnBounds}
-use Rattle.fvn_acunify.specs.ValidChoice.{IsListed, chosen, column_sum, touched}
-use Rattle.fvn_acunify.specs.inner.Prefix.{CanBeFilled, IsAsked, IsBounded, IsChanged, IsDead, IsOpen, useful_part, useful_sum}
-use Rattle.fvn_acunify.proofs.ColumnSums.{column_sum-cons, useful_part-apart, useful_part-le, useful_sum-cons, useful_sum-take_more}
+use Rattle.fvn_acunify.specs.ValidChoice.{IsListed, IsValid, chosen, column_sum, touched}
+use Rattle.fvn_acunify.specs.inner.Prefix.{CanBeFilled, IsAsked, IsBounded, IsChanged, IsDead, IsOpen, share, useful_part, useful_sum}
+use Rattle.fvn_acunify.proofs.ColumnSums.{column_sum-cons, touched-le-share, share-le-touched, useful_part-one, useful_part-le, useful_sum-cons, useful_sum-take_more}
 
 -- ---- a number's bits from a place on
 
@@ -60,18 +60,18 @@ higher-skipped b p basis h bit = higher-at b p basis (record { parts = [] }) h �
 higher-all : (b place : ℕ) (basis : List Solution) → length basis ≤ place → higher b place basis ≡ []
 higher-all b place basis h = ap (λ l. chosen (b / 2 ^ place) (vectors_of l)) (drop_all place basis h)
 
-cond_cons-column_sum-le : (t : Bool) (constants : List ℕ) (j : ℕ) (v : Solution) (x : List (List ℕ)) (y : List Solution) → (All (λ w. touched constants w ≤ 1) x → column_sum j x ≤ useful_sum constants j y) → All (λ w. touched constants w ≤ 1) (cond t (v.parts ∷ x) x) → column_sum j (cond t (v.parts ∷ x) x) ≤ useful_sum constants j (v ∷ y)
-cond_cons-column_sum-le true constants j v x y h apart =
-    let here = useful_part-apart constants j v.parts (All-head (λ w. touched constants w ≤ 1) v.parts x apart) in
-    let rest = h (All-tail (λ w. touched constants w ≤ 1) v.parts x apart) in
+cond_cons-column_sum-le : (t : Bool) (constants : List ℕ) (j : ℕ) (v : Solution) (x : List (List ℕ)) (y : List Solution) → (All (λ w. share constants w ≤ 1) x → column_sum j x ≤ useful_sum constants j y) → All (λ w. share constants w ≤ 1) (cond t (v.parts ∷ x) x) → column_sum j (cond t (v.parts ∷ x) x) ≤ useful_sum constants j (v ∷ y)
+cond_cons-column_sum-le true constants j v x y h one =
+    let here = useful_part-one constants j v.parts (All-head (λ w. share constants w ≤ 1) v.parts x one) in
+    let rest = h (All-tail (λ w. share constants w ≤ 1) v.parts x one) in
     omega (arith, here, rest, column_sum-cons j v.parts x, useful_sum-cons constants j v y)
-cond_cons-column_sum-le false constants j v x y h apart = omega (arith, h apart, useful_sum-cons constants j v y)
+cond_cons-column_sum-le false constants j v x y h one = omega (arith, h one, useful_sum-cons constants j v y)
 
--- what is chosen, none of it with two constants, has no more in a column than all can give to it
-column_sum-chosen-le : (constants : List ℕ) (j b : ℕ) (list : List Solution) → All (λ v. touched constants v ≤ 1) (chosen b (vectors_of list)) → column_sum j (chosen b (vectors_of list)) ≤ useful_sum constants j list
-column_sum-chosen-le constants j b [] apart = omega arith
-column_sum-chosen-le constants j b (v ∷ list) apart =
-    cond_cons-column_sum-le (eqb (b % 2) 1) constants j v (chosen (b / 2) (vectors_of list)) list (column_sum-chosen-le constants j (b / 2) list) apart
+-- what is chosen, none of it with two constants or one twice, has no more in a column than all can give to it
+column_sum-chosen-le : (constants : List ℕ) (j b : ℕ) (list : List Solution) → All (λ v. share constants v ≤ 1) (chosen b (vectors_of list)) → column_sum j (chosen b (vectors_of list)) ≤ useful_sum constants j list
+column_sum-chosen-le constants j b [] one = omega arith
+column_sum-chosen-le constants j b (v ∷ list) one =
+    cond_cons-column_sum-le (eqb (b % 2) 1) constants j v (chosen (b / 2) (vectors_of list)) list (column_sum-chosen-le constants j (b / 2) list) one
 
 le_from_not_lt : (m n : ℕ) → (m < n → ⊥) → n ≤ m
 le_from_not_lt m n never = elim (cases_lt m n) [ inl h ↦ absurd (never h) | inr h ↦ h ]
@@ -129,11 +129,12 @@ IsWalked-skipped constants basis number place p sums e bit walked =
       apart = All-same (λ v. touched constants v ≤ 1) (higher number p basis) (higher number place basis) same walked.apart;
     }
 
-pub IsWalked-taken : (constants : List ℕ) (basis : List Solution) (number place p : ℕ) (sums added parts : List ℕ) (d : Solution) → p + 1 ≡ place → number / 2 ^ p % 2 ≡ 1 → parts ≡ (get_or basis p d).parts → (1 < touched constants parts → ⊥) → ((j : ℕ) → slice_index parts j ≤ 65535) → ((j : ℕ) → slice_index added j ≡ slice_index sums j + slice_index parts j) → IsWalked constants basis number place sums → IsWalked constants basis number p added
-IsWalked-taken constants basis number place p sums added parts d e bit is touches narrow sum walked =
+pub IsWalked-taken : (constants : List ℕ) (basis : List Solution) (number place p : ℕ) (sums added parts : List ℕ) (d : Solution) → p + 1 ≡ place → number / 2 ^ p % 2 ≡ 1 → parts ≡ (get_or basis p d).parts → (1 < share constants parts → ⊥) → ((j : ℕ) → slice_index parts j ≤ 65535) → ((j : ℕ) → slice_index added j ≡ slice_index sums j + slice_index parts j) → IsWalked constants basis number place sums → IsWalked constants basis number p added
+IsWalked-taken constants basis number place p sums added parts d e bit is two narrow sum walked =
     let within : p < length basis = omega arith in
     let same : higher number p basis ≡ parts ∷ higher number place basis = higher-taken number p basis d within bit ∙ ap (λ v. v ∷ higher number (p + 1) basis) (sym is) ∙ ap (λ n. parts ∷ higher number n basis) e in
-    let one : touched constants parts ≤ 1 = le_from_not_lt 1 (touched constants parts) touches in
+    let few = le_from_not_lt 1 (share constants parts) two in
+    let one : touched constants parts ≤ 1 = omega (arith, few, touched-le-share constants parts) in
     record {
       inside = omega arith;
       summed = λ j. omega (arith, sum j, walked.summed j, column_sum-cons j parts (higher number place basis), ap (column_sum j) same);
@@ -144,14 +145,21 @@ IsWalked-taken constants basis number place p sums added parts d e bit is touche
 
 -- ---- what the walk tells
 
--- every number with these higher bits that chooses no solution with two constants has the sums and what its lower bits choose
-column_sum-at : (constants : List ℕ) (basis : List Solution) (number place : ℕ) (sums : List ℕ) → IsWalked constants basis number place sums → (b : ℕ) → b / 2 ^ place ≡ number / 2 ^ place → All (λ v. touched constants v ≤ 1) (chosen b (vectors_of basis)) → (j : ℕ) → column_sum j (chosen b (vectors_of basis)) ≤ slice_index sums j + useful_sum constants j (take place basis) × (slice_index sums j ≤ column_sum j (chosen b (vectors_of basis)))
-column_sum-at constants basis number place sums walked b same apart j =
+-- each solution of a valid choice has at most 1 in the constant columns together
+share-valid : (constants : List ℕ) (may_be_zero : List Bool) (basis : List (List ℕ)) (b : ℕ) → IsValid constants may_be_zero basis b → All (λ v. share constants v ≤ 1) (chosen b basis)
+share-valid constants may_be_zero basis b valid = λ i d h.
+    let v = get_or (chosen b basis) i d in
+    let each : All (λ c. slice_index v c ≤ 1) constants = λ k e w. omega (arith, valid.once k e w, get_or-le-sum_by (λ x. slice_index x (get_or constants k e)) (chosen b basis) i d h) in
+    omega (arith, valid.apart i d h, share-le-touched constants v each)
+
+-- every number with these higher bits that chooses no solution with two constants or one twice has the sums and what its lower bits choose
+column_sum-at : (constants : List ℕ) (basis : List Solution) (number place : ℕ) (sums : List ℕ) → IsWalked constants basis number place sums → (b : ℕ) → b / 2 ^ place ≡ number / 2 ^ place → All (λ v. share constants v ≤ 1) (chosen b (vectors_of basis)) → (j : ℕ) → column_sum j (chosen b (vectors_of basis)) ≤ slice_index sums j + useful_sum constants j (take place basis) × (slice_index sums j ≤ column_sum j (chosen b (vectors_of basis)))
+column_sum-at constants basis number place sums walked b same single j =
     let lower = chosen b (vectors_of (take place basis)) in
     let split : column_sum j (chosen b (vectors_of basis)) ≡ column_sum j lower + column_sum j (higher b place basis) = ap (column_sum j) (chosen-split place b basis) ∙ sum_by-append (λ v. slice_index v j) lower (higher b place basis) in
     let top : column_sum j (higher b place basis) ≡ slice_index sums j = ap (λ n. column_sum j (chosen n (vectors_of (drop place basis)))) same ∙ sym (walked.summed j) in
-    let one : All (λ v. touched constants v ≤ 1) lower = All-first (λ v. touched constants v ≤ 1) lower (higher b place basis)
-    (All-same (λ v. touched constants v ≤ 1) (lower ++ higher b place basis) (chosen b (vectors_of basis)) (sym (chosen-split place b basis)) apart) in
+    let one : All (λ v. share constants v ≤ 1) lower = All-first (λ v. share constants v ≤ 1) lower (higher b place basis)
+    (All-same (λ v. share constants v ≤ 1) (lower ++ higher b place basis) (chosen b (vectors_of basis)) (sym (chosen-split place b basis)) single) in
     let few : column_sum j lower ≤ useful_sum constants j (take place basis) = column_sum-chosen-le constants j b (take place basis) one in
     (omega arith, omega arith)
 
@@ -162,7 +170,7 @@ vector_at basis p d within = get_or-map (λ (v : Solution). v.parts) basis p d [
 pub dead-from_closed : (full : Option (List ℕ)) (constants : List ℕ) (may_be_zero : List Bool) (bounds : ColumnBounds) (basis : List Solution) (number place : ℕ) (sums changed : List ℕ) → IsWalked constants basis number place sums → (IsOpen changed constants may_be_zero bounds (take place basis) sums → ⊥) → IsDead (IsListed full constants may_be_zero bounds (vectors_of basis)) number place
 dead-from_closed full constants may_be_zero bounds basis number place sums changed walked closed b same listed =
     let valid = listed.valid in
-    let at = column_sum-at constants basis number place sums walked b same valid.apart in
+    let at = column_sum-at constants basis number place sums walked b same (share-valid constants may_be_zero (vectors_of basis) b valid) in
     closed (record {
       filled = λ j asked _. omega (arith, at j, valid.filled j asked);
       once = λ k d h. (omega (arith, at (slice_index_or constants k d), valid.once k d h), λ _. omega (arith, at (slice_index_or constants k d), valid.once k d h));
@@ -172,14 +180,14 @@ dead-from_closed full constants may_be_zero bounds basis number place sums chang
       };
     })
 
--- where the solution at a place touches two constants, all numbers with its bit and these higher bits are out
-pub dead-from_touched : (full : Option (List ℕ)) (constants : List ℕ) (may_be_zero : List Bool) (bounds : ColumnBounds) (basis : List Solution) (number p : ℕ) (parts : List ℕ) (d : Solution) → p < length basis → number / 2 ^ p % 2 ≡ 1 → parts ≡ (get_or basis p d).parts → 1 < touched constants parts → IsDead (IsListed full constants may_be_zero bounds (vectors_of basis)) number p
-dead-from_touched full constants may_be_zero bounds basis number p parts d within bit is touches b same listed =
+-- where the solution at a place has two constants, or one twice, all numbers with its bit and these higher bits are out
+pub dead-from_two : (full : Option (List ℕ)) (constants : List ℕ) (may_be_zero : List Bool) (bounds : ColumnBounds) (basis : List Solution) (number p : ℕ) (parts : List ℕ) (d : Solution) → p < length basis → number / 2 ^ p % 2 ≡ 1 → parts ≡ (get_or basis p d).parts → 1 < share constants parts → IsDead (IsListed full constants may_be_zero bounds (vectors_of basis)) number p
+dead-from_two full constants may_be_zero bounds basis number p parts d within bit is two b same listed =
     let valid = listed.valid in
     let bit_b : b / 2 ^ p % 2 ≡ 1 = ap (λ n. n % 2) same ∙ bit in
     let lower = chosen b (vectors_of (take p basis)) in
     let split : chosen b (vectors_of basis) ≡ lower ++ parts ∷ higher b (p + 1) basis = chosen-split p b basis ∙ ap (λ l. lower ++ l) (higher-taken b p basis d within bit_b) ∙ ap (λ v. lower ++ v ∷ higher b (p + 1) basis) (sym is) in
-    let one : touched constants parts ≤ 1 = All-middle (λ v. touched constants v ≤ 1) lower (higher b (p + 1) basis) parts (All-same (λ v. touched constants v ≤ 1) (lower ++ parts ∷ higher b (p + 1) basis) (chosen b (vectors_of basis)) (sym split) valid.apart) in
+    let one : share constants parts ≤ 1 = All-middle (λ v. share constants v ≤ 1) lower (higher b (p + 1) basis) parts (All-same (λ v. share constants v ≤ 1) (lower ++ parts ∷ higher b (p + 1) basis) (chosen b (vectors_of basis)) (sym split) (share-valid constants may_be_zero (vectors_of basis) b valid)) in
     omega arith
 
 -- a listed choice takes each solution that is asked for

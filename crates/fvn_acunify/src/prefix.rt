@@ -2,7 +2,7 @@
 ghost use Rattle.std.specs.Prelude.{◌≡◌, ◌↔◌, ℕ, ◌+◌, ◌^◌, ◌<◌, ◌≤◌, length, slice_index, slice_index_or, true, false, All, IsTrue, IfSome, IfNone};
 ghost use Rattle.fvn_lindio.specs.Systems.{vectors_of};
 ghost use Rattle.fvn_acunify.specs.ValidChoice.{IsListed, touched};
-ghost use Rattle.fvn_acunify.specs.inner.Prefix.{AreBoundsOpen, CanBeFilled, CanBeOne, IsBounded, IsChanged, IsAsked, IsDead, IsOpen, useful_part};
+ghost use Rattle.fvn_acunify.specs.inner.Prefix.{AreBoundsOpen, CanBeFilled, CanBeOne, IsBounded, IsChanged, IsAsked, IsDead, IsOpen, share, useful_part};
 
 use crate::theory::ColumnBounds;
 use fvn_base::Seq;
@@ -38,7 +38,7 @@ pub fn dead_place(
         place -= 1;
         let parts = basis[place].parts.as_slice();
         if (number >> place) % 2 == 1 {
-            if touches_two(constants, parts) {
+            if uses_two(constants, parts) {
                 return Some(place);
             }
             add(sums, parts);
@@ -52,12 +52,21 @@ pub fn dead_place(
     None
 }
 
-/// Whether a solution is other than zero in two constant columns.
-fn touches_two(constants: &[usize], parts: &[u32]) -> bool
+/// Whether a solution has more than 1 in the constant columns, all together: two constants, or one
+/// twice. It is looked no further than that.
+fn uses_two(constants: &[usize], parts: &[u32]) -> bool
     requires { All (λ c. c < length parts.now) constants.now }
-    ensures { IsTrue result ↔ (1 < touched constants.now parts.now) }
+    ensures { IsTrue result ↔ (1 < share constants.now parts.now) }
 {
-    constants.iter().filter(|c| parts[**c] > 0).count() > 1
+    let mut left: u32 = 1;
+    for c in constants {
+        let part = parts[*c];
+        if part > left {
+            return true;
+        }
+        left -= part;
+    }
+    false
 }
 
 /// What a solution has in a column; in one that there is not, 0.
@@ -305,7 +314,8 @@ fn is_changed(changed: &[u32], j: usize) -> bool
     true
 }
 
-/// Whether a solution is above zero in a column, and may be taken; it may not with two constants.
+/// Whether a solution is above zero in a column, and may be taken; it may not with two constants,
+/// or with one twice.
 fn is_useful(constants: &[usize], parts: &[u32], j: usize) -> bool
     requires among { All (λ c. c < length parts.now) constants.now }
     requires column { j < length parts.now }
@@ -315,5 +325,5 @@ fn is_useful(constants: &[usize], parts: &[u32], j: usize) -> bool
     if part == 0 {
         return false;
     }
-    !touches_two(constants, parts)
+    !uses_two(constants, parts)
 }

@@ -13,7 +13,7 @@ use Rattle.fvn_combine_inferring.specs.Inferred.{HasNoValues, HaveOneValue, Have
 use Rattle.fvn_combine.specs.Tasks.{Combining, IsCombining}
 use Rattle.fvn_combine.specs.inner.Found.{IsAdmittedBy, MeetUnderAll, IsLookedAt, IsLooked}
 use Rattle.fvn_combine.specs.declared.looking.Looked.{Looked}
-use Rattle.fvn_combine.specs.declared.looking.Looked.TheVariants.{Over, Open, Together, Apart, Parted, Passed, Refused, Leaf}
+use Rattle.fvn_combine.specs.declared.looking.Looked.TheVariants.{Over, Open, Together, Apart, Parted, PartedAll, Passed, Refused, Leaf}
 
 module _ (k : Combining) (is : IsCombining k) (law : SortedUnifiersGoWith) (s : State) (closed : IsClosed k.declarations k.table s) where
   -- the values of such a unifier go with the state
@@ -58,6 +58,7 @@ looked_last k states below s is (Open i j) h = record { below = below; last = s;
 looked_last k states below s is (Together pairs) h = record { below = below; last = s; is = is; looked = h }
 looked_last k states below s is (Apart i j) h = record { below = below; last = s; is = is; looked = h }
 looked_last k states below s is (Parted i j) h = record { below = below; last = s; is = is; looked = h }
+looked_last k states below s is (PartedAll pairs) h = record { below = below; last = s; is = is; looked = h }
 looked_last k states below s is Passed h = record { below = below; last = s; is = is; looked = h }
 looked_last k states below s is (Refused f system) h = record { below = below; last = s; is = is; looked = h }
 looked_last k states below s is (Leaf o) h = record { below = below; last = s; is = is; looked = h }

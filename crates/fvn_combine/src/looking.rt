@@ -1,5 +1,5 @@
 //! What the top of a decision tree asks for.
-ghost use Rattle.std.specs.Prelude.{◌≡◌, ◌<◌, length, IsTrue, IfOk, IfSome};
+ghost use Rattle.std.specs.Prelude.{◌≡◌, ◌<◌, length, All, IsTrue, IfOk, IfSome};
 ghost use Rattle.fvn_combine_tree.specs.Trees.{AreClosed};
 ghost use Rattle.fvn_combine_nodes.specs.States.{IsClosed, IsOpen, class_of};
 ghost use Rattle.fvn_combine_leaves.specs.Bases.{AreBases, HaveAlive};
@@ -8,7 +8,7 @@ ghost use Rattle.fvn_combine_leaves.specs.Readings.{IsReading};
 ghost use Rattle.fvn_combine_choices.specs.Plans.{AreOfOneKind};
 ghost use Rattle.fvn_combine_drawing.specs.CombineCandidatesRefusals.{IsFirstRefused};
 ghost use Rattle.fvn_combine_inferring.specs.Inferred.{TellHeads, TellLabels};
-ghost use Rattle.fvn_combine.specs.inner.Found.{IsLooked, IsLookedAt, MayPart};
+ghost use Rattle.fvn_combine.specs.inner.Found.{IsLooked, IsLookedAt, MayPart, MayPartOpen};
 
 use crate::effort::Effort;
 use crate::kinds::are_of_one_kind;
@@ -26,7 +26,7 @@ use fvn_combine_inferring::{Inferred, Known, differ, infer, known_of, sorted_uni
 use fvn_combine_leaves::Reading;
 use fvn_combine_loose::{
     are_parted, loose_classes_are_variables, loose_classes_part, loose_heights,
-    more_general_is_a_preorder, open_identity,
+    more_general_is_a_preorder, open_identities,
 };
 use fvn_combine_nodes::State;
 use fvn_combine_questions::{first_question, question_on_all, question_on_touched};
@@ -49,6 +49,8 @@ pub(crate) enum Looked {
     Apart(usize, usize),
     /// Each unifier of the state has a more general one, of the state too, under which two nodes are in different classes.
     Parted(usize, usize),
+    /// The same of the nodes of each pair, under one more general unifier.
+    PartedAll(Vec<(usize, usize)>),
     /// To be passed over: it admits no unifier.
     Passed,
     /// To end: the sum system of an operator is refused.
@@ -456,20 +458,20 @@ fn look_within(task: &Task, state: &State, effort: &mut Effort) -> Result<Looked
     }
 }
 
-// A class and an identity that the more general unifiers of a state have apart, where these are enough.
-fn parted_identity(task: &Task, state: &State) -> Result<Option<(usize, usize)>, NoMemory>
+// Classes and identities that the more general unifiers of a state have apart, where these are enough.
+fn parted_identities(task: &Task, state: &State) -> Result<Vec<(usize, usize)>, NoMemory>
     requires closed { IsClosed task.now.declarations task.now.table state.now }
-    ensures { IfOk result (λ o. IfSome o (λ p. MayPart task.now state.now p.0 p.1
-        × IsOpen state.now p.0 p.1)) }
+    ensures { IfOk result (λ pairs. All (MayPartOpen task.now state.now) pairs.items) }
 {
     if !task.general {
-        return Ok(None);
+        return Ok(Vec::new(task.alloc));
     }
     if task.table.units().is_empty() {
-        return Ok(None);
+        return Ok(Vec::new(task.alloc));
     }
     let loose = loose_heights(task.alloc, task.sig, &task.table, state)?;
-    Ok(open_identity(task.sig, &task.table, state, loose.as_slice()))
+    let pairs = open_identities(task.alloc, task.sig, &task.table, state, loose.as_slice())?;
+    Ok(pairs)
 }
 
 // What is asked for by a state: first which identities its more general unifiers leave out, where these are enough.
@@ -479,17 +481,18 @@ fn look_at(task: &Task, state: &State, effort: &mut Effort) -> Result<Looked, No
 {
     task.recall();
     loose_classes_part();
-    match parted_identity(task, state)? {
-        Some((i, j)) => Ok(Looked::Parted(i, j)),
-        None => look_within(task, state, effort),
+    let pairs = parted_identities(task, state)?;
+    if pairs.is_empty() {
+        return look_within(task, state, effort);
     }
+    Ok(Looked::PartedAll(pairs))
 }
 
 // Whether nothing is asked: nodes are put together or apart, and the same state is looked at again.
 fn is_fact(looked: &Looked) -> bool {
     matches!(
         looked,
-        Looked::Together(_) | Looked::Apart(_, _) | Looked::Parted(_, _)
+        Looked::Together(_) | Looked::Apart(_, _) | Looked::Parted(_, _) | Looked::PartedAll(_)
     )
 }
 

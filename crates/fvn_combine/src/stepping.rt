@@ -3,7 +3,7 @@ ghost use Rattle.std.specs.Prelude.{◌≡◌, Some, None, IfOk, OnErr};
 ghost use Rattle.fvn_combine_tree.specs.Trees.{AreClosed, AreInOrder};
 ghost use Rattle.fvn_combine.specs.Search.{IsOpenedAt};
 ghost use Rattle.fvn_combine.specs.inner.Found.{IsStep, IsLookedAtLast, AreFound, IsLessLeft};
-ghost use Rattle.fvn_combine.specs.declared.looking.Looked.TheVariants.{Open, Together, Apart, Parted, Passed, Leaf as OnLeaf};
+ghost use Rattle.fvn_combine.specs.declared.looking.Looked.TheVariants.{Open, Together, Apart, Parted, PartedAll, Passed, Leaf as OnLeaf};
 ghost use Rattle.fvn_combine.specs.Work.{left_by};
 
 use crate::effort::Effort;
@@ -147,6 +147,29 @@ fn part_last_general(
     Ok(Step::More)
 }
 
+// Takes on that the nodes of each pair are in different classes, where more general unifiers have them so.
+fn part_last_all(
+    task: &Task,
+    tree: &mut Tree,
+    leaf: &mut Option<Leaf>,
+    pairs: Vec<(usize, usize)>,
+) -> Result<Step, NoMemory>
+    requires closed { AreClosed task.now.declarations task.now.table tree.old }
+    requires ordered { AreInOrder tree.old }
+    requires looked { IsLookedAtLast task.now tree.old (PartedAll pairs) }
+    ensures closed { AreClosed task.now.declarations task.now.table tree.new }
+    ensures ordered { AreInOrder tree.new }
+    ensures stepped { IfOk result (IsStep task.now tree.old leaf.old tree.new leaf.new) }
+    ensures no_memory { OnErr result ((tree.new ≡ tree.old) × (leaf.new ≡ leaf.old)) }
+{
+    task.recall();
+    unifiers_partition();
+    more_general_is_a_preorder();
+    tree.part_all(task.alloc, task.sig, &task.table, pairs.as_slice())?;
+    close_leaf(leaf);
+    Ok(Step::More)
+}
+
 // Passes over the last state.
 fn pass_last(task: &Task, tree: &mut Tree, leaf: &mut Option<Leaf>) -> Step
     requires closed { AreClosed task.now.declarations task.now.table tree.old }
@@ -202,6 +225,7 @@ fn take_step(
         Looked::Together(pairs) => meet_last(task, tree, leaf, pairs),
         Looked::Apart(i, j) => part_last(task, tree, leaf, i, j),
         Looked::Parted(i, j) => part_last_general(task, tree, leaf, i, j),
+        Looked::PartedAll(pairs) => part_last_all(task, tree, leaf, pairs),
         Looked::Passed => Ok(pass_last(task, tree, leaf)),
         Looked::Refused(f, system) => Ok(Step::End(Ended::Basis(f, system))),
         Looked::Leaf(opened) => Ok(open_last(task, tree, leaf, opened)),

@@ -4,7 +4,7 @@ ghost use Rattle.fvn_base.specs.declared.limits.TheConstants.{TERM_SYMBOLS};
 ghost use Rattle.fvn_flat.specs.Solving.{IsGiven, symbols_of_pairs};
 ghost use Rattle.fvn_combine.specs.Tasks.{IsCombining};
 
-use crate::ranks::node_sizes;
+use crate::ranks::node_ranks;
 use fvn_combine_drawing::variables;
 use fvn_combine_nodes::Table;
 use fvn_combine_tree::table_of;
@@ -87,7 +87,7 @@ impl<'a> Task<'a> {
         let table = table_of(alloc, sig, problem)?;
         table.recall_well_made();
         let variables = variables(alloc, &table)?;
-        let sizes = node_sizes(alloc, table.nodes())?;
+        let sizes = node_ranks(alloc, table.nodes())?;
         Ok(Task {
             alloc,
             sig,

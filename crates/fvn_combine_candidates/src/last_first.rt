@@ -16,7 +16,7 @@ ghost use Rattle.fvn_combine_candidates.specs.inner.Turned.{IsTurned};
 
 use crate::alive::alive_basis;
 use crate::defining::{copied_left, rows_left};
-use crate::once::{HeadedSums, are_choices_few, are_uses_few, heeded_bounds};
+use crate::once::{HeadedSums, are_choices_few, are_uses_few, heeded_bounds, open_columns};
 use fvn_acunify::limits::LISTED_SOLUTIONS;
 use fvn_base::Seq;
 use fvn_base::limits::MINIMAL_SOLUTIONS;
@@ -189,12 +189,15 @@ fn are_listed(
     requires associative { IsAssociative (axioms sig.now sums.now.operator) }
     requires closed { IsClosed sig.now table.now state.now }
     requires sums { AreSums sig.now table.now (class_of state.now) sums.now }
+    requires reading { IsReading sig.now table.now (class_of state.now) headed.reading.now }
+    requires listed { Contains headed.reading.now.sums sums.now }
 {
     if basis.len() <= MINIMAL_SOLUTIONS {
         return Ok(true);
     }
     let bounds = heeded_bounds(alloc, sig, table, state, sums, sorted)?;
-    let few = are_choices_few(alloc, sig, headed, sums, &bounds, basis)?;
+    let open = open_columns(alloc, sig, table, state, headed, sums, &bounds)?;
+    let few = are_choices_few(alloc, sig, headed, sums, &bounds, &open, basis)?;
     Ok(few)
 }
 
@@ -223,10 +226,7 @@ pub fn bases_from_last(
         HaveAlive sig.now table.now state.now reading.now.sums v.items)) }
 {
     let sums = reading.sums.as_slice();
-    let headed = HeadedSums {
-        operators: sums,
-        heads,
-    };
+    let headed = HeadedSums { reading, heads };
     let mut bases = Vec::new(alloc);
     for i in 0..sums.len() {
         let entry = &sums[i];

@@ -14,6 +14,7 @@ mod solving;
 mod tagging;
 mod turning;
 mod vanishing;
+mod whole;
 
 pub use aliases::leave_no_alias;
 pub use fvn_combine_bounds::sorted_leaves_cover;

@@ -1,15 +1,18 @@
 //! How many choices there are among minimal solutions: which of these may be taken or not, whatever else is taken, and which
 //! are in each choice.
+ghost use Rattle.std.specs.Prelude.{Contains};
 ghost use Rattle.fvn_terms.specs.Signature.{axioms};
 ghost use Rattle.fvn_terms.specs.Equality.{IsAssociative};
 ghost use Rattle.fvn_combine_nodes.specs.States.{IsClosed, class_of};
-ghost use Rattle.fvn_combine_leaves.specs.Readings.{AreSums};
+ghost use Rattle.fvn_combine_leaves.specs.Readings.{AreSums, IsReading};
 
 use crate::neutral::is_neutral;
+use crate::vanishing::other_columns;
+use crate::whole::is_whole;
 use fvn_acunify::ColumnBounds;
 use fvn_base::limits::MINIMAL_SOLUTIONS;
 use fvn_combine_bounds::bounds_of;
-use fvn_combine_leaves::Sums;
+use fvn_combine_leaves::{Reading, Sums};
 use fvn_combine_nodes::{State, Table};
 use fvn_lindio::{Row, Solution};
 use fvn_signature::Signature;
@@ -29,10 +32,10 @@ const NUMBERED: usize = 12;
 /// The most rows that may have a class of which no other head is known, where many solutions may come up on the way.
 const FEW_USES: usize = 4;
 
-/// The sum operators of a state, and what is known of its classes.
+/// What is read of a state, and what is known of its classes.
 #[derive(Clone, Copy)]
 pub(crate) struct HeadedSums<'a> {
-    pub(crate) operators: &'a [Sums],
+    pub(crate) reading: &'a Reading,
     /// For each class an operator that heads its value, where one is known.
     pub(crate) heads: &'a [Option<OpId>],
 }
@@ -193,14 +196,33 @@ fn is_dead(heads: &[Option<OpId>], sums: &Sums, parts: &[u32]) -> bool {
     false
 }
 
-// Whether few solutions are zero in all these columns; of a neutral operator each of them is taken.
-fn are_few_free(sig: &Signature, sums: &Sums, columns: &[usize], solutions: &[Solution]) -> bool {
+// Whether the solution is in each choice: it is zero in all these columns. Without a list no solution is told to be so.
+fn is_in_each(open: &Option<Vec<usize>>, parts: &[u32]) -> bool {
+    match open {
+        None => false,
+        Some(columns) => is_free(columns.as_slice(), parts),
+    }
+}
+
+// Whether few solutions are zero in all these columns, but for those that are in each choice; of a neutral operator each of
+// them is taken.
+fn are_few_free(
+    sig: &Signature,
+    sums: &Sums,
+    columns: &[usize],
+    open: &Option<Vec<usize>>,
+    solutions: &[Solution],
+) -> bool {
     if is_neutral(sig, sums.operator) {
         return true;
     }
     let mut left = FREE_SOLUTIONS;
     for solution in solutions {
-        if !is_free(columns, solution.parts.as_slice()) {
+        let parts = solution.parts.as_slice();
+        if !is_free(columns, parts) {
+            continue;
+        }
+        if is_in_each(open, parts) {
             continue;
         }
         if left == 0 {
@@ -276,16 +298,16 @@ fn may_be_constant(headed: HeadedSums, sums: &Sums, j: usize) -> bool {
     if is_own(headed.heads, sums.operator, k) {
         return false;
     }
-    is_shared(headed.operators, sums.operator, k)
+    is_shared(headed.reading.sums.as_slice(), sums.operator, k)
 }
 
-// The columns that may be those of constants.
-fn constant_columns(
-    alloc: Global,
+// These columns, and those that may be those of constants.
+fn with_constants(
+    others: Vec<usize>,
     headed: HeadedSums,
     sums: &Sums,
 ) -> Result<Vec<usize>, NoMemory> {
-    let mut list = Vec::new(alloc);
+    let mut list = others;
     for j in 0..sums.columns.len() {
         if !may_be_constant(headed, sums, j) {
             continue;
@@ -295,21 +317,159 @@ fn constant_columns(
     Ok(list)
 }
 
-// Whether at most 24 solutions are zero in the lone columns; of a neutral operator each that is zero in all columns of
-// constants is taken, and is not counted.
-fn are_few_open(
-    neutral: bool,
-    lone: &[usize],
-    constants: &[usize],
-    solutions: &[Solution],
+// Whether some coefficient of the row is greater than 1, or smaller than -1.
+fn has_repeated(row: &Row) -> bool {
+    for coefficient in row.coefficients.as_slice() {
+        if *coefficient > 1 {
+            return true;
+        }
+        if *coefficient < -1 {
+            return true;
+        }
+    }
+    false
+}
+
+// Whether no row has a class several times.
+fn are_linear(sums: &Sums) -> bool {
+    for row in sums.system.rows.as_slice() {
+        if has_repeated(row) {
+            return false;
+        }
+    }
+    true
+}
+
+// Whether the class of column j has at most one summand: it is a constant; or sorts ask it, where no class is added several times.
+fn is_single(
+    heads: &[Option<OpId>],
+    sums: &Sums,
+    bounds: &ColumnBounds,
+    linear: bool,
+    j: usize,
 ) -> bool {
+    if j >= sums.columns.len() {
+        return true;
+    }
+    if is_headed(heads, sums.operator, sums.columns.as_slice()[j]) {
+        return true;
+    }
+    if !linear {
+        return false;
+    }
+    has(bounds.at_most_one.as_slice(), j)
+}
+
+// The columns that are so.
+fn single_columns(
+    alloc: Global,
+    heads: &[Option<OpId>],
+    sums: &Sums,
+    bounds: &ColumnBounds,
+) -> Result<Vec<usize>, NoMemory> {
+    let linear = are_linear(sums);
+    let mut list = Vec::new(alloc);
+    for j in 0..sums.columns.len() {
+        if !is_single(heads, sums, bounds, linear, j) {
+            continue;
+        }
+        list.push(j)?;
+    }
+    Ok(list)
+}
+
+// Whether the class of each column that is neither single nor among these others has variables of whole sorts alone, and each
+// of the others is single: else there are many choices, or summands have their sorts in many ways.
+fn are_ways_few(
+    sig: &Signature,
+    table: &Table,
+    state: &State,
+    sums: &Sums,
+    e: OpId,
+    single: &[usize],
+    others: &[usize],
+) -> bool
+    requires { IsClosed sig.now table.now state.now }
+{
+    let columns = sums.columns.as_slice();
+    for j in 0..columns.len() {
+        if has(single, j) {
+            continue;
+        }
+        if has(others, j) {
+            return false;
+        }
+        if !is_whole(sig, table, state, sums.operator, e, columns[j]) {
+            return false;
+        }
+    }
+    true
+}
+
+// Whether it is asked which solutions are in each choice: the operator is neutral, or the ways are few.
+fn is_asked(
+    sig: &Signature,
+    table: &Table,
+    state: &State,
+    sums: &Sums,
+    e: OpId,
+    single: &[usize],
+    others: &[usize],
+) -> bool
+    requires { IsClosed sig.now table.now state.now }
+{
+    if is_neutral(sig, sums.operator) {
+        return true;
+    }
+    are_ways_few(sig, table, state, sums, e, single, others)
+}
+
+/// The columns in which a solution that is in each choice is zero: those whose classes do not take the operator's identity, and
+/// those that may be constants'. Nothing where there is no identity, or where it is not asked.
+pub(crate) fn open_columns(
+    alloc: Global,
+    sig: &Signature,
+    table: &Table,
+    state: &State,
+    headed: HeadedSums,
+    sums: &Sums,
+    bounds: &ColumnBounds,
+) -> Result<Option<Vec<usize>>, NoMemory>
+    requires closed { IsClosed sig.now table.now state.now }
+    requires reading { IsReading sig.now table.now (class_of state.now) headed.reading.now }
+    requires listed { Contains headed.reading.now.sums sums.now }
+{
+    match sig.identity(sums.operator) {
+        None => Ok(None),
+        Some(e) => {
+            let others = other_columns(alloc, sig, table, state, headed.reading, sums, e)?;
+            let single = single_columns(alloc, headed.heads, sums, bounds)?;
+            if !is_asked(
+                sig,
+                table,
+                state,
+                sums,
+                e,
+                single.as_slice(),
+                others.as_slice(),
+            ) {
+                return Ok(None);
+            }
+            let list = with_constants(others, headed, sums)?;
+            Ok(Some(list))
+        }
+    }
+}
+
+// Whether at most 24 solutions are zero in the lone columns, but for those that are in each choice.
+fn are_few_open(lone: &[usize], open: &Option<Vec<usize>>, solutions: &[Solution]) -> bool {
     let mut left = MINIMAL_SOLUTIONS;
     for solution in solutions {
         let parts = solution.parts.as_slice();
         if !is_free(lone, parts) {
             continue;
         }
-        if neutral && is_free(constants, parts) {
+        if is_in_each(open, parts) {
             continue;
         }
         if left == 0 {
@@ -421,11 +581,9 @@ fn bits_left(
     Some(left)
 }
 
-// Whether so many bits are enough for the solutions that are not passed; of a neutral operator each that is zero in all columns
-// of constants is taken, and needs none.
+// Whether so many bits are enough for the solutions that are not passed; one that is in each choice needs none.
 fn are_bits_enough(
-    neutral: bool,
-    constants: &[usize],
+    open: &Option<Vec<usize>>,
     passed: &[bool],
     solutions: &[Solution],
     most: usize,
@@ -435,7 +593,7 @@ fn are_bits_enough(
         if is_passed(passed, v) {
             continue;
         }
-        if neutral && is_free(constants, solutions[v].parts.as_slice()) {
+        if is_in_each(open, solutions[v].parts.as_slice()) {
             continue;
         }
         if left == 0 {
@@ -450,17 +608,16 @@ fn are_bits_enough(
 // for it, and of the others whether they are taken.
 fn are_few_in_turn(
     alloc: Global,
-    neutral: bool,
     headed: HeadedSums,
     sums: &Sums,
     once: &[usize],
-    constants: &[usize],
+    open: &Option<Vec<usize>>,
     solutions: &[Solution],
 ) -> Result<bool, NoMemory> {
     let mut passed = dead_marks(alloc, headed.heads, sums, solutions)?;
     match bits_left(&mut passed, solutions, once, NUMBERED) {
         None => Ok(false),
-        Some(left) => Ok(are_bits_enough(neutral, constants, passed.as_slice(), solutions, left)),
+        Some(left) => Ok(are_bits_enough(open, passed.as_slice(), solutions, left)),
     }
 }
 
@@ -474,28 +631,19 @@ pub(crate) fn are_choices_few(
     headed: HeadedSums,
     sums: &Sums,
     bounds: &ColumnBounds,
+    open: &Option<Vec<usize>>,
     solutions: &[Solution],
 ) -> Result<bool, NoMemory> {
     let once = once_columns(alloc, headed.heads, sums, bounds)?;
     if solutions.len() <= SHARED_OUT {
-        if are_few_free(sig, sums, once.as_slice(), solutions) {
+        if are_few_free(sig, sums, once.as_slice(), open, solutions) {
             return Ok(true);
         }
     }
     let lone = lone_columns(alloc, sig, sums, once.as_slice(), solutions)?;
-    let constants = constant_columns(alloc, headed, sums)?;
-    let neutral = is_neutral(sig, sums.operator);
-    if are_few_open(neutral, lone.as_slice(), constants.as_slice(), solutions) {
+    if are_few_open(lone.as_slice(), open, solutions) {
         return Ok(true);
     }
-    let few = are_few_in_turn(
-        alloc,
-        neutral,
-        headed,
-        sums,
-        once.as_slice(),
-        constants.as_slice(),
-        solutions,
-    )?;
+    let few = are_few_in_turn(alloc, headed, sums, once.as_slice(), open, solutions)?;
     Ok(few)
 }

@@ -35,7 +35,7 @@ fn note_each(
 }
 
 // Notes the arguments of node i, where an operator heads it that makes no sums.
-fn note_of(
+pub(crate) fn note_arguments(
     list: &mut Vec<Inside>,
     sig: &Signature,
     table: &Table,
@@ -58,22 +58,4 @@ fn note_of(
             note_each(list, sig, table, state, sorted, i, ks.as_slice())
         }
     }
-}
-
-// Notes the arguments of all nodes that are no sums.
-pub(crate) fn note_arguments(
-    list: &mut Vec<Inside>,
-    sig: &Signature,
-    table: &Table,
-    state: &State,
-    sorted: bool,
-) -> Result<(), NoMemory>
-    requires closed { IsClosed sig.now table.now state.now }
-    requires list { AreInside sig.now table.now state.now sorted list.old.items }
-    ensures { OnOk result (AreInside sig.now table.now state.now sorted list.new.items) }
-{
-    for i in 0..table.nodes().len() {
-        note_of(list, sig, table, state, sorted, i)?;
-    }
-    Ok(())
 }

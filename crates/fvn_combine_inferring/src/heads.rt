@@ -1,5 +1,5 @@
 //! What is known of the values of classes: what heads them.
-ghost use Rattle.std.specs.Prelude.{◌≡◌, ◌<◌, ◌≤◌, length, slice_set, Some, IfOk, OnOk, IsTrue};
+ghost use Rattle.std.specs.Prelude.{◌≡◌, ◌<◌, ◌≤◌, ◌∷◌, [], length, slice_set, All, Some, IfOk, OnOk, IsTrue};
 ghost use Rattle.fvn_terms.specs.Signature.{axioms};
 ghost use Rattle.fvn_terms.specs.Equality.{IsAssociative};
 ghost use Rattle.fvn_combine_bounds.specs.CombineChoicesTables.{HasSums};
@@ -8,6 +8,7 @@ ghost use Rattle.fvn_combine_nodes.specs.States.{IsClosed, class_of};
 ghost use Rattle.fvn_combine_inferring.specs.inner.Bounds.{HasTwoSummands, IsPart};
 ghost use Rattle.fvn_combine_inferring.specs.inner.Splits.{IsAddition};
 ghost use Rattle.fvn_combine_inferring.specs.Inferred.{TellHeads};
+ghost use Rattle.fvn_combine_inferring.specs.Rows.{AreSides};
 
 use crate::bounds::{count_summands, has_summand};
 use crate::differing::differ;
@@ -33,34 +34,6 @@ fn is_two(count: usize) -> bool
     ensures { IsTrue result → 2 ≤ count }
 {
     count >= 2
-}
-
-// Whether two of the classes that node i adds have a summand for sure.
-fn adds_two(
-    alloc: Global,
-    sig: &Signature,
-    table: &Table,
-    state: &State,
-    known: &Known,
-    addition: &Addition,
-    i: usize,
-) -> Result<bool, NoMemory>
-    requires closed { IsClosed sig.now table.now state.now }
-    requires sums { HasSums sig.now table.now }
-    requires heads { TellHeads sig.now table.now state.now known.now.sorted known.now.heads.items }
-    requires addition { IsAddition sig.now table.now state.now addition.now }
-    requires within { i < length table.now.nodes }
-    ensures { IfOk result (λ r. IsTrue r
-        → HasTwoSummands sig.now table.now state.now known.now.sorted addition.now.operator i) }
-{
-    match added(alloc, sig, table, state, addition, i)? {
-        None => Ok(false),
-        Some(list) => {
-            let count = count_summands(sig, table, state, known, addition, list.as_slice());
-            let large = is_two(count);
-            Ok(large)
-        }
-    }
 }
 
 // Whether the class of node k has a summand for sure, and another value than that of node i.
@@ -113,6 +86,65 @@ fn has_part(
                 return true;
             }
             is_part(sig, table, state, known, addition, p.1, i)
+        }
+    }
+}
+
+// Whether one of these classes, all that node i adds, has a summand for sure, and not all that the sum has.
+fn has_part_in(
+    sig: &Signature,
+    table: &Table,
+    state: &State,
+    known: &Known,
+    addition: &Addition,
+    list: &[usize],
+    i: usize,
+) -> bool
+    requires closed { IsClosed sig.now table.now state.now }
+    requires sums { HasSums sig.now table.now }
+    requires heads { TellHeads sig.now table.now state.now known.now.sorted known.now.heads.items }
+    requires addition { IsAddition sig.now table.now state.now addition.now }
+    requires parts { All (λ k. k < length table.now.nodes) list.now }
+    requires within { i < length table.now.nodes }
+    requires sides { AreSides sig.now table.now state.now addition.now.operator (i ∷ []) list.now }
+    ensures { IsTrue result → HasTwoSummands sig.now table.now state.now known.now.sorted
+        addition.now.operator i }
+{
+    for k in list {
+        if is_part(sig, table, state, known, addition, *k, i) {
+            return true;
+        }
+    }
+    false
+}
+
+// Whether two of all the classes that node i adds have a summand for sure, or one of them is a part of the sum.
+fn adds_two(
+    alloc: Global,
+    sig: &Signature,
+    table: &Table,
+    state: &State,
+    known: &Known,
+    addition: &Addition,
+    i: usize,
+) -> Result<bool, NoMemory>
+    requires closed { IsClosed sig.now table.now state.now }
+    requires sums { HasSums sig.now table.now }
+    requires heads { TellHeads sig.now table.now state.now known.now.sorted known.now.heads.items }
+    requires addition { IsAddition sig.now table.now state.now addition.now }
+    requires within { i < length table.now.nodes }
+    ensures { IfOk result (λ r. IsTrue r
+        → HasTwoSummands sig.now table.now state.now known.now.sorted addition.now.operator i) }
+{
+    match added(alloc, sig, table, state, addition, i)? {
+        None => Ok(false),
+        Some(list) => {
+            let classes = list.as_slice();
+            if is_two(count_summands(sig, table, state, known, addition, classes)) {
+                return Ok(true);
+            }
+            let large = has_part_in(sig, table, state, known, addition, classes, i);
+            Ok(large)
         }
     }
 }

@@ -19,11 +19,12 @@ use fvn_signature::Signature;
 use fvn_terms::{NoMemory, OpId};
 use std::alloc::Global;
 
-// The most pairs of which longer chains are looked for.
-const PAIRS: usize = 96;
-// The most classes of which they are looked for.
-const CLASSES: usize = 64;
-// The rounds in which they are looked for: chains of so many pairs are found.
+// The greatest number of pairs of which chains are followed: of more, each pair alone is read.
+const PAIRS: usize = 1024;
+// Chains are followed through classes whose numbers are below this one.
+const CLASSES: usize = 512;
+// The most rounds in which chains are followed. A round goes through the pairs as they are listed, and so along each chain
+// that is listed in its order; each turn against that order takes a round more.
 const ROUNDS: usize = 16;
 // What is noted of a class: that it has no fewer symbols than the class at which a chain begins.
 const NO_FEWER: u8 = 1;
@@ -127,24 +128,28 @@ fn note_inside(
     }
 }
 
-// Notes the classes that the sums by f add.
-fn note_insides(
+// Notes what node i contains: its arguments, or the classes that it adds.
+fn note_node(
     list: &mut Vec<Inside>,
     sig: &Signature,
     table: &Table,
     state: &State,
+    reading: &Reading,
     known: &Known,
-    f: OpId,
+    i: usize,
 ) -> Result<(), NoMemory>
-    requires associative { IsAssociative (axioms sig.now f) }
     requires closed { IsClosed sig.now table.now state.now }
     requires sums { HasSums sig.now table.now }
+    requires reading { IsReading sig.now table.now (class_of state.now) reading.now }
     requires heads { TellHeads sig.now table.now state.now known.now.sorted known.now.heads.items }
+    requires within { i < length table.now.nodes }
     requires list { AreInside sig.now table.now state.now known.now.sorted list.old.items }
     ensures { OnOk result (AreInside sig.now table.now state.now known.now.sorted list.new.items) }
 {
-    for i in 0..table.nodes().len() {
-        note_inside(list, sig, table, state, known, f, i)?;
+    table.recall_well_made();
+    note_arguments(list, sig, table, state, known.sorted, i)?;
+    for sums in reading.sums.as_slice() {
+        note_inside(list, sig, table, state, known, sums.operator, i)?;
     }
     Ok(())
 }
@@ -243,7 +248,8 @@ fn is_reached(pairs: &[Inside], k: usize, l: usize) -> bool
     noted(&marks, l) == MORE
 }
 
-/// The classes that sums add, which have no more symbols than the sums, and arguments of other operators, which have fewer.
+/// The classes that sums add, which have no more symbols than the sums, and arguments of other operators, which have fewer:
+/// node by node, each after what it is made of, so that one round follows a chain of nodes to its end.
 pub(crate) fn insides(
     alloc: Global,
     sig: &Signature,
@@ -258,11 +264,9 @@ pub(crate) fn insides(
     requires heads { TellHeads sig.now table.now state.now known.now.sorted known.now.heads.items }
     ensures { IfOk result (λ v. AreInside sig.now table.now state.now known.now.sorted v.items) }
 {
-    table.recall_well_made();
     let mut list = Vec::new(alloc);
-    note_arguments(&mut list, sig, table, state, known.sorted)?;
-    for sums in reading.sums.as_slice() {
-        note_insides(&mut list, sig, table, state, known, sums.operator)?;
+    for i in 0..table.nodes().len() {
+        note_node(&mut list, sig, table, state, reading, known, i)?;
     }
     Ok(list)
 }
@@ -331,21 +335,69 @@ fn begins_circle(pairs: &[Inside], chained: bool, pair: &Inside) -> bool
     if !chained {
         return false;
     }
-    if pairs.len() > PAIRS {
-        return false;
-    }
     if !has_parts(pairs, pair.small) {
         return false;
     }
     is_reached(pairs, pair.small, pair.small)
 }
 
+// Raises the rank of the larger class of a pair, where it is too low; answers whether it was.
+fn raise(ranks: &mut [u16], pair: &Inside) -> bool {
+    if pair.small >= ranks.len() {
+        return false;
+    }
+    if pair.large >= ranks.len() {
+        return false;
+    }
+    let more = if pair.proper { 1 } else { 0 };
+    let least = ranks[pair.small].saturating_add(more);
+    if ranks[pair.large] >= least {
+        return false;
+    }
+    ranks[pair.large] = least;
+    true
+}
+
+// Raises ranks by each of the pairs; answers whether any was too low.
+fn raise_all(ranks: &mut [u16], pairs: &[Inside]) -> bool {
+    let mut changed = false;
+    for pair in pairs {
+        let raised = raise(ranks, pair);
+        changed = either(changed, raised);
+    }
+    changed
+}
+
+// Whether classes can be ranked: each no lower than what it contains, and higher than what has fewer symbols. Then no chain
+// of pairs says that a class has fewer symbols than itself.
+fn are_ranked(pairs: &[Inside]) -> bool {
+    let mut ranks = [0u16; CLASSES];
+    for _round in 0..ROUNDS {
+        if !raise_all(&mut ranks, pairs) {
+            return true;
+        }
+    }
+    false
+}
+
+// Whether chains may say that a class has fewer symbols than itself, and are to be followed.
+fn may_be_circular(pairs: &[Inside], chained: bool) -> bool {
+    if !chained {
+        return false;
+    }
+    if pairs.len() > PAIRS {
+        return false;
+    }
+    !are_ranked(pairs)
+}
+
 // Whether a class has fewer symbols than itself.
 pub(crate) fn is_circular(pairs: &[Inside], chained: bool) -> bool
     ensures { IsTrue result → (w : ℕ → ℕ) → AreSaid w pairs.now → ⊥ }
 {
+    let followed = may_be_circular(pairs, chained);
     for pair in pairs {
-        if begins_circle(pairs, chained, pair) {
+        if begins_circle(pairs, followed, pair) {
             return true;
         }
     }

@@ -31,7 +31,7 @@ module _ {d : Declarations} {problem : Problem} {t : NodeTable} {s : State} {z :
   one_remade i j l m e = BEqual-trans d (BEqual-sym d (node_value g i l)) (BEqual-trans d ((new_partitions.exact i j l m).0 e) (node_value g j m))
 
   -- so they were before
-  before : (i j : ℕ) → i < length t.nodes → j < length t.nodes → kernel d (loosened g) t.nodes i ≡ kernel d (loosened g) t.nodes j → kernel d u t.nodes i ≡ kernel d u t.nodes j
+  pub before : (i j : ℕ) → i < length t.nodes → j < length t.nodes → kernel d (loosened g) t.nodes i ≡ kernel d (loosened g) t.nodes j → kernel d u t.nodes i ≡ kernel d u t.nodes j
   before i j l m e =
       let here = after_remade g (height i) i (omega arith) l in
       let there = after_remade g (height j) j (omega arith) m in

@@ -14,5 +14,6 @@ mod GivenSorts
 mod Loosening
 mod Preorder
 mod Spreading
+mod PartedPairs
 mod Checked
 mod Ranked

@@ -1,4 +1,4 @@
--- Where a loose class parts two nodes, each unifier of the state has a more general one under which they are apart.
+-- A unifier with a new variable in place of the value of a loose class is more general, and has all that the state has decided.
 use Rattle.std.proofs.Common.{ℕ, List, arith, sym, subst}
 use Rattle.fvn_terms.specs.declared.declarations.Declarations.{Declarations}
 use Rattle.fvn_terms.specs.Substitution.{Substitution, apply}
@@ -11,12 +11,12 @@ use Rattle.fvn_combine_nodes.specs.declared.state.State.{State}
 use Rattle.fvn_combine_nodes.proofs.Nodes.{term_at-variable}
 use Rattle.fvn_combine_loose.specs.MoreGeneral.{IsMoreGeneral}
 use Rattle.fvn_combine_loose.specs.Loose.{height_of}
-use Rattle.fvn_combine_loose.specs.Laws.{IsLoosened, LooseClassesPart}
+use Rattle.fvn_combine_loose.specs.Laws.{IsLoosened}
 use Rattle.fvn_combine_loose.proofs.Setting.{Setting}
 use Rattle.fvn_combine_loose.proofs.Remade.{remade}
 use Rattle.fvn_combine_loose.proofs.After.{after, after_sorted, after_remade}
 use Rattle.fvn_combine_loose.proofs.Loosened.{loosened, loosened_given, loosened_unifies}
-use Rattle.fvn_combine_loose.proofs.Admitted.{loosened_admitted, loosened_apart}
+use Rattle.fvn_combine_loose.proofs.Admitted.{loosened_admitted}
 use Rattle.fvn_combine_loose.proofs.GivenSorts.{loosened_sorts, loosened_well_sorted}
 
 module _ {d : Declarations} {problem : Problem} {t : NodeTable} {s : State} {z : ℕ} {heights : List ℕ} {u : Substitution} (g : Setting d problem t s z heights u) where
@@ -35,13 +35,3 @@ module _ {d : Declarations} {problem : Problem} {t : NodeTable} {s : State} {z :
 
   pub is_loosened : IsLoosened d problem t s u (loosened g)
   is_loosened = record { unifies = loosened_unifies g; more_general = more_general; admits = loosened_admitted g }
-
-pub loose_classes : LooseClassesPart
-loose_classes d good problem kinded t made table s closed i j parted u unifier admits =
-    let g : Setting d problem t s parted.bottom parted.heights u =
-    record { good = good; kinded = kinded; made = made; table = table; closed = closed; loose = parted.loose; unifier = unifier; admits = admits }
-    in (
-      loosened g,
-      is_loosened g,
-      loosened_apart g i j parted.left parted.right parted.one,
-    )

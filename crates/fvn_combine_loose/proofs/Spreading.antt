@@ -62,10 +62,10 @@ module _ {d : Declarations} {problem : Problem} {t : NodeTable} {s : State} {z :
 
 module _ (d : Declarations) (good : IsGood d) (problem : Problem) (kinded : IsProblem d problem) (t : NodeTable) (made : IsWellMade t) (table : IsTableOf d problem t) (s : State) (closed : IsClosed d t s) where
   -- a unifier that the state admits is loosened by itself
-  loosened_itself : (u : Substitution) → IsKindUnifier d problem u → Admits s (kernel d u t.nodes) → IsLoosened d problem t s u u
+  pub loosened_itself : (u : Substitution) → IsKindUnifier d problem u → Admits s (kernel d u t.nodes) → IsLoosened d problem t s u u
   loosened_itself u unifier admits = record { unifies = unifier; more_general = preorder.itself d good problem kinded u; admits = admits }
 
-  loosened_chain : (u v w : Substitution) → IsLoosened d problem t s u v → IsLoosened d problem t s v w → IsLoosened d problem t s u w
+  pub loosened_chain : (u v w : Substitution) → IsLoosened d problem t s u v → IsLoosened d problem t s v w → IsLoosened d problem t s u w
   loosened_chain u v w a b = record { unifies = b.unifies; more_general = preorder.after d good problem kinded u v w a.more_general b.more_general; admits = b.admits }
 
   -- one node more

@@ -21,12 +21,13 @@ pub record IsLoosened (d : Declarations) (problem : Problem) (t : NodeTable) (s 
   pub more_general : IsMoreGeneral d (variables_of problem) u v
   pub admits : Admits s (kernel d v t.nodes)
 
--- where a loose class stands in one of two classes alone, each unifier of the state has a more general one under which they are apart
+-- where for each of these pairs a loose class stands in one of its two classes alone, each unifier of the state has a more general one
+-- under which the two classes of each pair are apart
 abbrev pub LooseClassesPart : Type 0
 LooseClassesPart =
     (d : Declarations) → IsGood d → (problem : Problem) → IsProblem d problem → (t : NodeTable) → IsWellMade t → IsTableOf d problem t
-    → (s : State) → IsClosed d t s → (i j : ℕ) → AreParted d t s i j → (u : Substitution) → IsKindUnifier d problem u → Admits s (kernel d u t.nodes)
-    → (v : Substitution) × IsLoosened d problem t s u v × (kernel d v t.nodes i ≢ kernel d v t.nodes j)
+    → (s : State) → IsClosed d t s → (pairs : List (ℕ × ℕ)) → All (λ p. AreParted d t s p.0 p.1) pairs → (u : Substitution) → IsKindUnifier d problem u → Admits s (kernel d u t.nodes)
+    → (v : Substitution) × IsLoosened d problem t s u v × All (λ p. kernel d v t.nodes p.0 ≢ kernel d v t.nodes p.1) pairs
 
 -- the values of these nodes under v are variables
 abbrev pub AreVariables : Declarations → NodeTable → List ℕ → Substitution → Type 0

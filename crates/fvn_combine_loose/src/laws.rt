@@ -1,8 +1,8 @@
 //! Laws of loose classes, each the contract of a function that does nothing.
 ghost use Rattle.fvn_combine_loose.specs.Laws.{LooseClassesPart, LooseClassesAreVariables, MoreGeneralIsAPreorder};
 
-/// Where a loose class stands in one of two classes alone, each unifier of the state has a more general one under which
-/// they are apart.
+/// Where for each of some pairs a loose class stands in one of its two classes alone, each unifier of the state has a more
+/// general one under which the two classes of each pair are apart.
 pub fn loose_classes_part()
     ensures { LooseClassesPart }
 {}

@@ -10,4 +10,4 @@ mod sorts;
 
 pub use heights::{loose_classes, loose_heights};
 pub use laws::{loose_classes_are_variables, loose_classes_part, more_general_is_a_preorder};
-pub use parting::{are_parted, open_identity};
+pub use parting::{are_parted, open_identities};

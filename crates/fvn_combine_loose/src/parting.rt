@@ -1,5 +1,5 @@
 //! Which nodes a loose class parts.
-ghost use Rattle.std.specs.Prelude.{◌≡◌, ◌<◌, length, All, IsTrue, IfSome};
+ghost use Rattle.std.specs.Prelude.{◌≡◌, ◌<◌, length, All, IsTrue, IfOk, OnOk};
 ghost use Rattle.fvn_combine_nodes.specs.States.{IsClosed};
 ghost use Rattle.fvn_combine_loose.specs.Loose.{AreHeights, AreParted, ArePartedOpen};
 ghost use Rattle.fvn_combine_loose.specs.inner.Checks.{StandInOne};
@@ -8,6 +8,8 @@ use crate::checking::height_at;
 use fvn_base::Seq;
 use fvn_combine_nodes::{State, Table};
 use fvn_signature::Signature;
+use fvn_terms::NoMemory;
+use std::alloc::Global;
 
 // Whether one of the classes of two nodes has a height, and the other one has not.
 fn stand_in_one(state: &State, heights: &[usize], i: usize, j: usize) -> bool
@@ -69,50 +71,73 @@ fn are_parted_open(
     state.is_open(i, j)
 }
 
-// An identity in which a loose class does not stand that stands in the class which node i names, where that is open.
-fn identity_open_to(
+// Notes node i and an identity, where a loose class parts them and it is open whether they are in one class.
+fn note_parted(
+    pairs: &mut Vec<(usize, usize)>,
     sig: &Signature,
     table: &Table,
     state: &State,
     all: &[Seq<usize>],
     i: usize,
-) -> Option<usize>
+    unit: usize,
+) -> Result<(), NoMemory>
     requires closed { IsClosed sig.now table.now state.now }
     requires heights { All (λ h. AreHeights sig.now table.now state.now h) all.now }
-    requires within { i < length table.now.nodes }
-    ensures { IfSome result (λ u. ArePartedOpen sig.now table.now state.now (i, u)) }
+    requires left { i < length table.now.nodes }
+    requires right { unit < length table.now.nodes }
+    requires noted { All (ArePartedOpen sig.now table.now state.now) pairs.old.items }
+    ensures { OnOk result (All (ArePartedOpen sig.now table.now state.now) pairs.new.items) }
 {
-    table.recall_well_made();
-    if state.class_of(i) != i {
-        return None;
+    if are_parted_open(sig, table, state, all, i, unit) {
+        pairs.push((i, unit))?;
+        return Ok(());
     }
-    for (_, u) in table.units() {
-        if are_parted_open(sig, table, state, all, i, *u) {
-            return Some(*u);
-        }
-    }
-    None
+    Ok(())
 }
 
-/// A class in which a loose class stands, and an identity in which it does not, of which it is open whether they are one.
-pub fn open_identity(
+// Notes each identity that a loose class parts from the class which node i names, where that is open.
+fn note_identities(
+    pairs: &mut Vec<(usize, usize)>,
     sig: &Signature,
     table: &Table,
     state: &State,
     all: &[Seq<usize>],
-) -> Option<(usize, usize)>
+    i: usize,
+) -> Result<(), NoMemory>
     requires closed { IsClosed sig.now table.now state.now }
     requires heights { All (λ h. AreHeights sig.now table.now state.now h) all.now }
-    ensures { IfSome result (λ p. ArePartedOpen sig.now table.now state.now p) }
+    requires within { i < length table.now.nodes }
+    requires noted { All (ArePartedOpen sig.now table.now state.now) pairs.old.items }
+    ensures { OnOk result (All (ArePartedOpen sig.now table.now state.now) pairs.new.items) }
 {
+    table.recall_well_made();
+    if state.class_of(i) != i {
+        return Ok(());
+    }
+    for (_, u) in table.units() {
+        note_parted(pairs, sig, table, state, all, i, *u)?;
+    }
+    Ok(())
+}
+
+/// Classes and identities that loose classes part, of which it is open whether they are one: each class beside each identity.
+pub fn open_identities(
+    alloc: Global,
+    sig: &Signature,
+    table: &Table,
+    state: &State,
+    all: &[Seq<usize>],
+) -> Result<Vec<(usize, usize)>, NoMemory>
+    requires closed { IsClosed sig.now table.now state.now }
+    requires heights { All (λ h. AreHeights sig.now table.now state.now h) all.now }
+    ensures { IfOk result (λ pairs. All (ArePartedOpen sig.now table.now state.now) pairs.items) }
+{
+    let mut pairs = Vec::new(alloc);
     if all.is_empty() {
-        return None;
+        return Ok(pairs);
     }
     for i in 0..table.nodes().len() {
-        match identity_open_to(sig, table, state, all, i) {
-            None => {}
-            Some(u) => return Some((i, u)),
-        }
+        note_identities(&mut pairs, sig, table, state, all, i)?;
     }
-    None
+    Ok(pairs)
 }

@@ -43,6 +43,10 @@ module _ (s : State) where
   pub best_below : (P : ℕ → Type 0) (a o : Option Ranked) (i : ℕ) → (o ≡ None → P i) → IsBestOr s a ((k : ℕ) → k < i → P k) o → IsBestOr s a ((k : ℕ) → k < i + 1 → P k) o
   best_below P a o i own = best_weaker ((k : ℕ) → k < i → P k) ((k : ℕ) → k < i + 1 → P k) a o (λ none below. more_below P i below (own none))
 
-  -- one more number that is searched, from the last one down
+  -- one more number that is searched, from the last one down, where something holds
+  pub best_above_where : (C : Type 0) (P : ℕ → Type 0) (a b o : Option Ranked) (n step k : ℕ) → (C → k + step + 1 ≡ n) → IsBestOr s a (C → (j : ℕ) → j < n → n ≤ j + step → P j) b → IsBestOr s b (C → P k) o → IsBestOr s a (C → (j : ℕ) → j < n → n ≤ j + (step + 1) → P j) o
+  best_above_where C P a b o n step k is = best_after (C → (j : ℕ) → j < n → n ≤ j + step → P j) (C → P k) (C → (j : ℕ) → j < n → n ≤ j + (step + 1) → P j) a b o (λ h own full. more_above P n step k (is full) (h full) (own full))
+
+  -- the same, where it always holds
   pub best_above : (P : ℕ → Type 0) (a b o : Option Ranked) (n step k : ℕ) → k + step + 1 ≡ n → IsBestOr s a ((j : ℕ) → j < n → n ≤ j + step → P j) b → IsBestOr s b (P k) o → IsBestOr s a ((j : ℕ) → j < n → n ≤ j + (step + 1) → P j) o
   best_above P a b o n step k is = best_after ((j : ℕ) → j < n → n ≤ j + step → P j) (P k) ((j : ℕ) → j < n → n ≤ j + (step + 1) → P j) a b o (more_above P n step k is)

@@ -1,28 +1,21 @@
-//! Columns of a minimal solution, and questions whether two classes are one of which it has both and one is a single summand.
+//! Columns of a minimal solution, which of its classes are single summands, and which of them are told apart.
 //!
 //! A solution that is taken stands for one summand. Where two classes that it has are single summands and are known to
 //! differ, it is never taken, so that nothing is asked of it; nor is anything asked of classes that are noted as sums by the
-//! operator, which are never constants of it. Single summands are asked of first: the answers tell which solutions are never
-//! taken.
-ghost use Rattle.std.specs.Prelude.{◌≡◌, ◌↔◌, ◌<◌, length, slice_index, IfSome, IsTrue, IsFalse};
+//! operator, which are never constants of it.
+ghost use Rattle.std.specs.Prelude.{◌≡◌, ◌↔◌, ◌<◌, length, slice_index, IsTrue, IsFalse};
 ghost use Rattle.fvn_combine_nodes.specs.States.{IsNaming, IsOpen};
-ghost use Rattle.fvn_combine_questions.specs.inner.Past.{IsOpenPair, IsOpenPairOr};
 ghost use Rattle.fvn_combine_leaves.specs.Users.{IsWholeSums, IsWhole};
 ghost use Rattle.fvn_combine_questions.specs.inner.Touched.{
-  AreWide,
-  AreAllWide,
   IsNotedIn,
   StandsIn,
   IsSingleIn,
   AreToldIn,
   IsDeadAt,
   IsDead,
-  ArePastColumns,
 };
 
-use crate::backwards::backwards;
 use crate::standing::{have_two_heads, is_noted_sum, is_one_summand, may_be_constant};
-use fvn_base::Seq;
 use fvn_combine_leaves::{Reading, Sums, is_user};
 use fvn_combine_nodes::State;
 use fvn_lindio::Solution;
@@ -64,7 +57,7 @@ pub(crate) fn stands(
 }
 
 // Whether the solution has column i, whose class is a single summand.
-fn is_single(
+pub(crate) fn is_single(
     sig: &Signature,
     reading: &Reading,
     heads: &[Option<OpId>],
@@ -163,118 +156,4 @@ pub(crate) fn is_dead(
         }
     }
     false
-}
-
-// A question whether the class of column i is another one that the solution has and that may be a constant.
-fn open_column(
-    sig: &Signature,
-    state: &State,
-    reading: &Reading,
-    heads: &[Option<OpId>],
-    sums: &Sums,
-    v: &Solution,
-    i: usize,
-) -> Option<(usize, usize)>
-    requires naming { IsNaming state.now }
-    requires reading { IsWhole (length state.now.names) reading.now }
-    requires sums { IsWholeSums (length state.now.names) sums.now }
-    requires wide { length v.now.parts ≡ length sums.now.columns }
-    requires within { i < length sums.now.columns }
-    ensures { IsOpenPairOr state.now
-        (ArePastColumns reading.now sums.now state.now (IsNotedIn sig.now heads.now) v.now i)
-        result }
-{
-    let n = state.names.len();
-    let columns = sums.columns.as_slice();
-    for j in 0..columns.len() {
-        if !stands(sig, reading, heads, n, sums, v, j) {
-            continue;
-        }
-        if are_told(state, reading, sums, i, j) {
-            continue;
-        }
-        return Some((columns[i], columns[j]));
-    }
-    None
-}
-
-// A question whether the class of a column that is a single summand is another one that the solution has and that may be a
-// constant.
-fn open_single(
-    sig: &Signature,
-    state: &State,
-    reading: &Reading,
-    heads: &[Option<OpId>],
-    sums: &Sums,
-    v: &Solution,
-) -> Option<(usize, usize)>
-    requires naming { IsNaming state.now }
-    requires reading { IsWhole (length state.now.names) reading.now }
-    requires sums { IsWholeSums (length state.now.names) sums.now }
-    requires wide { length v.now.parts ≡ length sums.now.columns }
-    ensures { IfSome result (IsOpenPair state.now) }
-{
-    let n = state.names.len();
-    for i in 0..sums.columns.len() {
-        if !is_single(sig, reading, heads, n, sums, v, i) {
-            continue;
-        }
-        match open_column(sig, state, reading, heads, sums, v, i) {
-            None => {}
-            Some(pair) => return Some(pair),
-        }
-    }
-    None
-}
-
-// So it is with each solution of the operator that stands for a summand.
-fn open_singles(
-    sig: &Signature,
-    state: &State,
-    reading: &Reading,
-    heads: &[Option<OpId>],
-    sums: &Sums,
-    basis: &[Solution],
-) -> Option<(usize, usize)>
-    requires naming { IsNaming state.now }
-    requires reading { IsWhole (length state.now.names) reading.now }
-    requires sums { IsWholeSums (length state.now.names) sums.now }
-    requires wide { AreWide (length sums.now.columns) basis.now }
-    ensures { IfSome result (IsOpenPair state.now) }
-{
-    for v in basis {
-        if is_dead(sig, state, reading, heads, sums, v) {
-            continue;
-        }
-        match open_single(sig, state, reading, heads, sums, v) {
-            None => {}
-            Some(pair) => return Some(pair),
-        }
-    }
-    None
-}
-
-// So it is with each operator: the last ones first.
-pub(crate) fn single_question(
-    sig: &Signature,
-    state: &State,
-    reading: &Reading,
-    heads: &[Option<OpId>],
-    bases: &[Seq<Solution>],
-) -> Option<(usize, usize)>
-    requires naming { IsNaming state.now }
-    requires reading { IsWhole (length state.now.names) reading.now }
-    requires as_many { length bases.now ≡ length reading.now.sums }
-    requires wide { AreAllWide reading.now.sums bases.now }
-    ensures { IfSome result (IsOpenPair state.now) }
-{
-    let sums = reading.sums.as_slice();
-    for step in 0..sums.len() {
-        let i = backwards(sums.len(), step);
-        match open_singles(sig, state, reading, heads, &sums[i], bases[i].as_slice()) {
-            None => {}
-            Some(pair) => return Some(pair),
-        }
-    }
-    None
 }

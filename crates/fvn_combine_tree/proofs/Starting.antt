@@ -1,13 +1,13 @@
 -- How states begin, and what is left of them after a question.
 use Rattle.std.proofs.Common.{◌≡◌, ◌≢◌, ℕ, ◌+◌, ◌<◌, List, [], ◌∷◌, ◌++◌, length, take, get_or, refl, sym, ap, ◌∙◌, subst, arith, All, Contains, Option, Some, None}
 use Rattle.std.proofs.lemmas.List.{take-take, get_or-take, length-take-le, get_or_default}
-use Rattle.std.proofs.lemmas.List.Elements.{All-nil, All-more, All-push, All-take, All-same, All-contains, Contains-append_left, Contains-push}
+use Rattle.std.proofs.lemmas.List.Elements.{All-nil, All-cons, All-head, All-more, All-append, All-take, All-same, All-contains, Contains-append_left, Contains-append_right}
 use Rattle.fvn_terms.specs.declared.declarations.Declarations.{Declarations}
 use Rattle.fvn_combine_nodes.specs.Table.{NodeTable, IsWellMade}
 use Rattle.fvn_combine_nodes.specs.Classes.{IsNodePartition}
 use Rattle.fvn_combine_nodes.specs.States.{Admits, IsNaming, IsClosed, IsOpen, class_of}
 use Rattle.fvn_combine_tree.specs.Questions.{IsStart, IsAnswer}
-use Rattle.fvn_combine_tree.specs.Trees.{AreMet}
+use Rattle.fvn_combine_tree.specs.Trees.{AreMet, AreKeptApart}
 use Rattle.fvn_combine_nodes.specs.declared.state.State.{State}
 use Rattle.fvn_combine_tree.specs.declared.closing.Move.{Move}
 use Rattle.fvn_combine_tree.specs.declared.closing.Move.TheVariants.{Stays, Changes, Clashes}
@@ -64,6 +64,10 @@ joined_more sides i p l is a b e m naming within so_far moved no_clash together 
           All-more (λ q. class q.0 ≡ class q.1) sides i (0, 0) l (so_far.joined class (forced_grows (λ class. class p.0 ≡ class p.1) b e so_far.nodes.naming one.0 one.1 class h)) (subst (λ q. class q.0 ≡ class q.1) is here);
       forced = forced-trans After a b e naming so_far.nodes (forced_weaker Before After a b shorter so_far.forced) (forced_weaker (λ class. class p.0 ≡ class p.1) After b e last one.1);
     }
+
+-- one pair is kept apart
+pub one_pair : (class : ℕ → ℕ) (i j : ℕ) → class i ≢ class j → AreKeptApart ((i, j) ∷ []) class
+one_pair class i j n = All-cons (λ p. class p.0 ≢ class p.1) (i, j) [] n (All-nil (λ p. class p.0 ≢ class p.1))
 
 module _ (d : Declarations) (t : NodeTable) where
   module _ (s0 s1 : State) (singles : IsSingles (length t.nodes) s0) (joined : IsJoinedFrom t.sides s0 s1) where
@@ -142,56 +146,72 @@ module _ (d : Declarations) (t : NodeTable) where
                 (same_not_open r i j (sym (h.2.coarser i (omega arith)) ∙ ap (class_of r) together ∙ h.2.coarser j (omega arith)));
           }
 
-    -- the two nodes are kept apart
-    module _ (s1 : State) (names : s1.names ≡ s.names) (apart : s1.apart ≡ s.apart ++ (i, j) ∷ []) where
-      class_is : (k : ℕ) → class_of s1 k ≡ class_of s k
-      class_is k = ap (λ ns. get_or ns k 0) names
+  -- the nodes of each pair are kept apart
+  module _ (s : State) (closed : IsClosed d t s) (pairs : List (ℕ × ℕ)) (within : All (λ p. (p.0 < length t.nodes) × (p.1 < length t.nodes)) pairs) (s1 : State) (names : s1.names ≡ s.names) (apart : s1.apart ≡ s.apart ++ pairs) where
+    class_is : (k : ℕ) → class_of s1 k ≡ class_of s k
+    class_is k = ap (λ ns. get_or ns k 0) names
 
-      n_is : length s1.names ≡ length s.names
-      n_is = ap length names
+    n_is : length s1.names ≡ length s.names
+    n_is = ap length names
 
-      pub parted_naming : IsNaming s1
-      parted_naming = record {
-        named = λ k l. (
-          let e = class_is k in let m = (closed.naming.named k (let n = n_is in omega arith)).0 in omega arith,
-          ap (class_of s1) (class_is k) ∙ class_is (class_of s k) ∙ (closed.naming.named k (let n = n_is in omega arith)).1 ∙ sym (class_is k),
-        );
-        kept = let P = λ (p : ℕ × ℕ). (p.0 < length s1.names) × (p.1 < length s1.names) in
-            let old : All P s.apart = subst (λ n. All (λ p. (p.0 < n) × (p.1 < n)) s.apart) (sym n_is) closed.naming.kept in
-            All-same P s1.apart (s.apart ++ (i, j) ∷ []) apart (All-push P s.apart (i, j) old (let n = n_is in let l = left_in in let m = right_in in (omega arith, omega arith)));
-      }
+    pub parted_naming : IsNaming s1
+    parted_naming = record {
+      named = λ k l. (
+        let e = class_is k in let m = (closed.naming.named k (let n = n_is in omega arith)).0 in omega arith,
+        ap (class_of s1) (class_is k) ∙ class_is (class_of s k) ∙ (closed.naming.named k (let n = n_is in omega arith)).1 ∙ sym (class_is k),
+      );
+      kept = let P = λ (p : ℕ × ℕ). (p.0 < length s1.names) × (p.1 < length s1.names) in
+          let old : All P s.apart = subst (λ n. All (λ p. (p.0 < n) × (p.1 < n)) s.apart) (sym n_is) closed.naming.kept in
+          let added : All P pairs = subst (λ n. All (λ p. (p.0 < n) × (p.1 < n)) pairs) (sym (n_is ∙ closed.whole)) within in
+          All-same P s1.apart (s.apart ++ pairs) apart (All-append P s.apart pairs old added);
+    }
 
-      pub parted_sides : All (λ p. class_of s1 p.0 ≡ class_of s1 p.1) t.sides
-      parted_sides = λ k e l. class_is _ ∙ closed.partition.sides k e l ∙ sym (class_is _)
+    pub parted_sides : All (λ p. class_of s1 p.0 ≡ class_of s1 p.1) t.sides
+    parted_sides = λ k e l. class_is _ ∙ closed.partition.sides k e l ∙ sym (class_is _)
 
-      parted_admits : (class : ℕ → ℕ) → Admits s class → class i ≢ class j → Admits s1 class
-      parted_admits class a n = record {
-        together = λ k l. a.together k (let m = n_is in omega arith) ∙ sym (ap class (class_is k));
-        apart = All-same (λ p. class p.0 ≢ class p.1) s1.apart (s.apart ++ (i, j) ∷ []) apart (All-push (λ p. class p.0 ≢ class p.1) s.apart (i, j) a.apart n);
-      }
+    parted_admits : (class : ℕ → ℕ) → Admits s class → AreKeptApart pairs class → Admits s1 class
+    parted_admits class a n = record {
+      together = λ k l. a.together k (let m = n_is in omega arith) ∙ sym (ap class (class_is k));
+      apart = All-same (λ p. class p.0 ≢ class p.1) s1.apart (s.apart ++ pairs) apart (All-append (λ p. class p.0 ≢ class p.1) s.apart pairs a.apart n);
+    }
 
-      there : Contains s1.apart (i, j)
-      there = subst (λ l. Contains l (i, j)) (sym apart) (Contains-push s.apart (i, j))
+    there : (p : ℕ × ℕ) → Contains pairs p → Contains s1.apart p
+    there p c = subst (λ l. Contains l p) (sym apart) (Contains-append_right s.apart pairs p c)
 
-      kept_apart : (p : ℕ × ℕ) → Contains s.apart p → Contains s1.apart p
-      kept_apart p c = subst (λ l. Contains l p) (sym apart) (Contains-append_left s.apart ((i, j) ∷ []) p c)
+    kept_apart : (p : ℕ × ℕ) → Contains s.apart p → Contains s1.apart p
+    kept_apart p c = subst (λ l. Contains l p) (sym apart) (Contains-append_left s.apart pairs p c)
 
-      pub apart_is : (r : Option State) → IsClosureOf d t s1 r → IsAnswer d t s (λ class. class i ≢ class j) r
-      apart_is None h = λ class partition admits n. h class partition (parted_admits class admits n)
-      apart_is (Some r) h =
-          let P = λ (class : ℕ → ℕ) (p : ℕ × ℕ). class p.0 ≢ class p.1 in
-          record {
-            closed = h.0;
-            holds = λ class a.
-                let b = forced_grows (IsNodePartition d t) s1 r parted_naming h.1 h.2 class a in (
-                  record {
-                    together = λ k l. b.together k (let m = n_is in omega arith) ∙ ap class (class_is k);
-                    apart = λ k e l. let c = kept_apart (get_or s.apart k e) (k, l, get_or_default s.apart k (get_or s.apart k e) e l) in subst (P class) c.2 (b.apart c.0 (get_or s.apart k e) c.1);
-                  },
-                  subst (P class) there.2 (b.apart there.0 (i, j) there.1),
-                );
-            forced = λ class partition a n. h.2.forced class partition (parted_admits class a n);
-            falls = open_falls s r (h.1.whole ∙ n_is) (λ k l. ap (class_of r) (sym (class_is k)) ∙ h.2.coarser k (let m = n_is in omega arith)) closed.naming
-                (λ p c. subst (λ l. Contains l p) (sym h.1.apart) (kept_apart p c)) i j left_in right_in open_now
-                (apart_not_open r i j (subst (λ l. Contains l (i, j)) (sym h.1.apart) there));
-          }
+    -- and those of one pair were open
+    pub apart_is : (i j : ℕ) → Contains pairs (i, j) → IsOpen s i j → (r : Option State) → IsClosureOf d t s1 r → IsAnswer d t s (AreKeptApart pairs) r
+    apart_is i j listed open_now None h = λ class partition admits n. h class partition (parted_admits class admits n)
+    apart_is i j listed open_now (Some r) h =
+        let P = λ (class : ℕ → ℕ) (p : ℕ × ℕ). class p.0 ≢ class p.1 in
+        let one : (i < length t.nodes) × (j < length t.nodes) = All-contains (λ p. (p.0 < length t.nodes) × (p.1 < length t.nodes)) pairs (i, j) within listed in
+        let w = closed.whole in
+        let left = one.0 in
+        let right = one.1 in
+        record {
+          closed = h.0;
+          holds = λ class a.
+              let b = forced_grows (IsNodePartition d t) s1 r parted_naming h.1 h.2 class a in (
+                record {
+                  together = λ k l. b.together k (let m = n_is in omega arith) ∙ ap class (class_is k);
+                  apart = λ k e l. let c = kept_apart (get_or s.apart k e) (k, l, get_or_default s.apart k (get_or s.apart k e) e l) in subst (P class) c.2 (b.apart c.0 (get_or s.apart k e) c.1);
+                },
+                λ k e l. let c = there (get_or pairs k e) (k, l, get_or_default pairs k (get_or pairs k e) e l) in subst (P class) c.2 (b.apart c.0 (get_or pairs k e) c.1),
+              );
+          forced = λ class partition a n. h.2.forced class partition (parted_admits class a n);
+          falls = open_falls s r (h.1.whole ∙ n_is) (λ k l. ap (class_of r) (sym (class_is k)) ∙ h.2.coarser k (let m = n_is in omega arith)) closed.naming
+              (λ p c. subst (λ l. Contains l p) (sym h.1.apart) (kept_apart p c)) i j (omega (arith, left, w)) (omega (arith, right, w)) open_now
+              (apart_not_open r i j (subst (λ l. Contains l (i, j)) (sym h.1.apart) (there (i, j) listed)));
+        }
+
+  -- what is left where the nodes of one pair are kept apart
+  pub one_apart : (s : State) (i j : ℕ) (r : Option State) → IsAnswer d t s (AreKeptApart ((i, j) ∷ [])) r → IsAnswer d t s (λ class. class i ≢ class j) r
+  one_apart s i j None h = λ class partition admits n. h class partition admits (one_pair class i j n)
+  one_apart s i j (Some r) h = record {
+    closed = h.closed;
+    holds = λ class a. let b = h.holds class a in (b.0, All-head (λ p. class p.0 ≢ class p.1) (i, j) [] b.1);
+    forced = λ class partition a n. h.forced class partition a (one_pair class i j n);
+    falls = h.falls;
+  }

@@ -47,6 +47,10 @@ SomeOpenAtTop states pairs = (i : ℕ) × (j : ℕ) × Contains pairs (i, j) × 
 abbrev pub AreMet : List (ℕ × ℕ) → (ℕ → ℕ) → Type 0
 AreMet pairs class = All (λ p. class p.0 ≡ class p.1) pairs
 
+-- the nodes of each pair are in two classes
+abbrev pub AreKeptApart : List (ℕ × ℕ) → (ℕ → ℕ) → Type 0
+AreKeptApart pairs class = All (λ p. class p.0 ≢ class p.1) pairs
+
 -- the last state made way for what is left of it; the others stay
 pub record IsAsked (d : Declarations) (t : NodeTable) (before after : List State) : Type 0 where
   pub below : List State

@@ -2,7 +2,7 @@
 ghost use Rattle.std.specs.Prelude.{◌≡◌, ◌≢◌, ◌<◌, length, All, IfOk};
 ghost use Rattle.fvn_combine_nodes.specs.States.{IsClosed, IsOpen, IsNaming};
 ghost use Rattle.fvn_combine_tree.specs.Questions.{IsStart, IsAnswer, AreAnswers};
-ghost use Rattle.fvn_combine_tree.specs.Trees.{AreMet};
+ghost use Rattle.fvn_combine_tree.specs.Trees.{AreMet, AreKeptApart};
 ghost use Rattle.fvn_combine_tree.specs.inner.Closing.{state_of};
 ghost use Rattle.fvn_combine_tree.specs.inner.Starts.{IsSingles, IsJoinedFrom, SomeOpen};
 
@@ -137,6 +137,28 @@ pub(crate) fn ask_apart(
     let mut closing = opened(alloc, state)?;
     let chains = Chains::new(alloc, table.nodes().len())?;
     closing.apart.push((i, j))?;
+    let left = close(sig, table, closing, chains);
+    Ok(left)
+}
+
+/// What is left where the nodes of each pair are kept apart: all pairs are added, and the state is closed once.
+pub(crate) fn ask_all_apart(
+    alloc: Global,
+    sig: &Signature,
+    table: &Table,
+    state: &State,
+    pairs: &[(usize, usize)],
+) -> Result<Option<State>, NoMemory>
+    requires closed { IsClosed sig.now table.now state.now }
+    requires within { All (λ p. (p.0 < length table.now.nodes)
+        × (p.1 < length table.now.nodes)) pairs.now }
+    requires some_open { SomeOpen state.now pairs.now }
+    ensures { IfOk result (IsAnswer sig.now table.now state.now (AreKeptApart pairs.now)) }
+{
+    table.recall_well_made();
+    let mut closing = opened(alloc, state)?;
+    let chains = Chains::new(alloc, table.nodes().len())?;
+    closing.apart.extend_from_slice(pairs)?;
     let left = close(sig, table, closing, chains);
     Ok(left)
 }

@@ -2,10 +2,10 @@
 ghost use Rattle.std.specs.Prelude.{◌≡◌, ◌≢◌, ℕ, ◌-◌, ◌<◌, List, [], ◌∷◌, ◌++◌, take, length, All, IfOk, OnOk, OnErr, IfSome, MatchOption};
 ghost use Rattle.fvn_combine_nodes.specs.Classes.{IsNodePartition};
 ghost use Rattle.fvn_combine_tree.specs.Trees.{weight, IsToCome, AreClosed, AreInOrder, IsOpenAtTop, SomeOpenAtTop};
-ghost use Rattle.fvn_combine_tree.specs.Trees.{AreMet, IsAsked, IsTakenOn};
+ghost use Rattle.fvn_combine_tree.specs.Trees.{AreMet, AreKeptApart, IsAsked, IsTakenOn};
 ghost use Rattle.fvn_combine_tree.specs.inner.Starts.{listed};
 
-use crate::asking::{Answers, ask, ask_apart, ask_met, start};
+use crate::asking::{Answers, ask, ask_all_apart, ask_apart, ask_met, start};
 use fvn_combine_nodes::{State, Table};
 use fvn_signature::Signature;
 use fvn_terms::NoMemory;
@@ -199,6 +199,41 @@ impl Tree {
             None => return Ok(()),
         };
         replace_top(&mut self.states, Answers { same: None, apart })?;
+        Ok(())
+    }
+
+    /// Puts in place of the top what is left of it where the nodes of each pair are kept apart; where some are in
+    /// one class nothing is to come any more.
+    pub fn part_all(
+        &mut self,
+        alloc: Global,
+        sig: &Signature,
+        table: &Table,
+        pairs: &[(usize, usize)],
+    ) -> Result<(), NoMemory>
+        requires closed { AreClosed sig.now table.now self.old }
+        requires within { All (λ p. (p.0 < length table.now.nodes)
+            × (p.1 < length table.now.nodes)) pairs.now }
+        requires some_open { SomeOpenAtTop self.old pairs.now }
+        ensures parted { OnOk result
+            (IsTakenOn sig.now table.now (AreKeptApart pairs.now) self.old self.new) }
+        ensures closed { AreClosed sig.now table.now self.new }
+        // Of two states the one in which nodes are together is looked at first.
+        ensures ordered { AreInOrder self.old → AreInOrder self.new }
+        ensures falls { OnOk result (weight self.new < weight self.old) }
+        ensures no_memory { OnErr result (self.new ≡ self.old) }
+    {
+        let left = match self.states.as_slice().last() {
+            Some(top) => ask_all_apart(alloc, sig, table, top, pairs)?,
+            None => return Ok(()),
+        };
+        replace_top(
+            &mut self.states,
+            Answers {
+                same: None,
+                apart: left,
+            },
+        )?;
         Ok(())
     }
 }

@@ -17,9 +17,13 @@ pub record IsBounded (columns : ℕ) (constants : List ℕ) (basis : List Soluti
 abbrev pub IsDead : (ℕ → Type 0) → ℕ → ℕ → Type 0
 IsDead Listed number place = (b : ℕ) → b / 2 ^ place ≡ number / 2 ^ place → Listed b → ⊥
 
--- what a vector can give to a column: nothing where it touches two constants
+-- what a vector has in these columns, all together
+abbrev pub share : List ℕ → List ℕ → ℕ
+share columns v = sum_by (λ c. slice_index v c) columns
+
+-- what a vector can give to a column: nothing where it has two constants, or one twice
 abbrev pub useful_part : List ℕ → ℕ → List ℕ → ℕ
-useful_part constants j v = if nat_lt 1 (touched constants v) then 0 else slice_index v j
+useful_part constants j v = if nat_lt 1 (share constants v) then 0 else slice_index v j
 
 -- what these solutions can give to a column, all together
 abbrev pub useful_sum : List ℕ → ℕ → List Solution → ℕ

@@ -4,7 +4,7 @@ use Rattle.fvn_base.specs.declared.memory.NoMemory.{NoMemory}
 use Rattle.fvn_terms.specs.Substitution.{Substitution}
 use Rattle.fvn_flat.specs.Solving.{IsBasisCause, IsTooLarge}
 use Rattle.fvn_combine_nodes.specs.States.{Admits, IsOpen}
-use Rattle.fvn_combine_tree.specs.Trees.{weight, AreMet}
+use Rattle.fvn_combine_tree.specs.Trees.{weight, AreMet, AreKeptApart}
 use Rattle.fvn_combine_nodes.specs.Unifiers.{kernel}
 use Rattle.fvn_combine_loose.specs.Loose.{AreParted}
 use Rattle.fvn_combine_loose.specs.Laws.{AreVariables}
@@ -25,7 +25,7 @@ use Rattle.fvn_combine.specs.declared.stepping.Step.TheVariants.{Over as NoneLef
 use Rattle.fvn_combine.specs.declared.stepping.Found.{Found}
 use Rattle.fvn_combine.specs.declared.stepping.Found.TheVariants.{Nothing, Ends, Given}
 use Rattle.fvn_combine.specs.declared.looking.Looked.{Looked}
-use Rattle.fvn_combine.specs.declared.looking.Looked.TheVariants.{Over, Open, Together, Apart, Parted, Passed, Refused, Leaf as OnLeaf}
+use Rattle.fvn_combine.specs.declared.looking.Looked.TheVariants.{Over, Open, Together, Apart, Parted, PartedAll, Passed, Refused, Leaf as OnLeaf}
 
 module _ (k : Combining) (Before After : Substitution → Type 0) where
   -- nothing, where nothing was to come; bindings that are too large, with all still to come; or a unifier that covers what is no longer to come
@@ -80,6 +80,18 @@ module _ (k : Combining) where
     pub enough : k.general ≡ true
     pub parted : AreParted k.declarations k.table s i j
 
+  -- so it is of two nodes of which it is open whether they are in one class
+  abbrev pub MayPartOpen : State → ℕ × ℕ → Type 0
+  MayPartOpen s p = MayPart s p.0 p.1 × IsOpen s p.0 p.1
+
+  -- the pairs are of nodes, of some it is open in the state whether they are in one class, and for each unifier that it admits and that is
+  -- asked for one stands, which it admits too, under which the nodes of each pair are in two classes
+  pub record PartUnderSome (s : State) (pairs : List (ℕ × ℕ)) : Type 0 where
+    pub within : All (λ p. (p.0 < length k.table.nodes) × (p.1 < length k.table.nodes)) pairs
+    pub some_open : (i : ℕ) × (j : ℕ) × Contains pairs (i, j) × IsOpen s i j
+    pub parted : (u : Substitution) → IsAdmittedBy s u
+        → HoldsFor k (λ v. Admits s (kernel k.declarations v k.table.nodes) × AreKeptApart pairs (kernel k.declarations v k.table.nodes)) u
+
   -- the pairs are of nodes, of some it is open in the state whether they are in one class, and they are so under each unifier
   -- that it admits and that is asked for
   pub record MeetUnderAll (s : State) (pairs : List (ℕ × ℕ)) : Type 0 where
@@ -88,7 +100,7 @@ module _ (k : Combining) where
     pub met : (u : Substitution) → IsAdmittedBy s u → AreMet pairs (kernel k.declarations u k.table.nodes)
 
   -- A question is open in the state; nodes are in one class, or two of which it is open in two, under each unifier that it
-  -- admits and that is asked for; or in two under one that it admits too, and that stands for this one; it admits none of
+  -- admits and that is asked for; or in two under one that it admits too, and that stands for this one, or those of each pair; it admits none of
   -- these; none is open, and a sum system of the problem under its partition is refused; or it is a leaf, which is opened, and of
   -- each of these one that stands for it is to come there.
   abbrev pub IsLookedAt : State → Looked → Type 0
@@ -102,6 +114,7 @@ module _ (k : Combining) where
       (i < length k.table.nodes) × (j < length k.table.nodes) × IsOpen s i j
       × ((u : Substitution) → IsAdmittedBy s u
       → HoldsFor k (λ v. Admits s (kernel k.declarations v k.table.nodes) × (kernel k.declarations v k.table.nodes i ≢ kernel k.declarations v k.table.nodes j)) u)
+  IsLookedAt s (PartedAll pairs) = PartUnderSome s pairs.items
   IsLookedAt s Passed = (u : Substitution) → IsAdmittedBy s u → ⊥
   IsLookedAt s (Refused f system) = IsBasisCause k.declarations k.given f system × IsRefusedAt k s f system
   IsLookedAt s (OnLeaf o) =
@@ -123,6 +136,7 @@ module _ (k : Combining) where
   IsLooked states (Together pairs) = IsLookedAtLast states (Together pairs)
   IsLooked states (Apart i j) = IsLookedAtLast states (Apart i j)
   IsLooked states (Parted i j) = IsLookedAtLast states (Parted i j)
+  IsLooked states (PartedAll pairs) = IsLookedAtLast states (PartedAll pairs)
   IsLooked states Passed = IsLookedAtLast states Passed
   IsLooked states (Refused f system) = IsLookedAtLast states (Refused f system)
   IsLooked states (OnLeaf o) = IsLookedAtLast states (OnLeaf o)

@@ -143,6 +143,31 @@ fn solutions_with_two_constants_are_passed_at_once(rt: HostRuntime) -> Result<()
     Ok(())
 }
 
+/// A variable twice on the left, another one three times and 14 constants on the right.
+fn two_and_three(rt: &impl Abort, alloc: Global) -> Result<Choices, Fail> {
+    let row = &[
+        2, -3, -1, -1, -1, -1, -1, -1, -1, -1, -1, -1, -1, -1, -1, -1,
+    ];
+    let constants = &[2, 3, 4, 5, 6, 7, 8, 9, 10, 11, 12, 13, 14, 15];
+    let theory = one_row(alloc, row, constants, false)?;
+    assert!(rt; keeps(&theory));
+    Ok(among(alloc, &theory)?)
+}
+
+// 120 solutions. The first 105 have 1 of the variable on the left, and two constants or one twice; the next 14
+// have both variables and one constant; the last, without one, may be taken.
+#[test]
+fn solutions_with_a_constant_twice_are_passed_at_once(rt: HostRuntime) -> Result<(), Fail> {
+    let mut choices = two_and_three(&rt, rt.alloc())?;
+    assert_eq!(rt; choices.basis().len(), 120);
+    let with = 0xff_fe00_0000_0000_0000_0000_0000_0000;
+    let without = 0x7f_fe00_0000_0000_0000_0000_0000_0000;
+    assert_given(&rt, &mut choices, &[with, without]);
+    choices.list_full(Seq::new(rt.alloc()));
+    assert_given(&rt, &mut choices, &[with]);
+    Ok(())
+}
+
 /// Whether the basis of the first row has too many solutions.
 fn has_too_many(alloc: Global, theory: &OneTheory) -> bool
     requires { IsOneTheory theory.now }

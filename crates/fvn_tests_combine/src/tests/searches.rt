@@ -53,7 +53,7 @@ search A0 A1 l A2 m A3 l = f => few | 7 4";
 // two in 64 ways, of which each is a choice, and nothing is asked: a row with no room shows both numbers as they are.
 const SEARCHED_WITH_ELEMENTS: &str = "search A0 A1 l = B2 B3 l B4 l => few | 1 8
 search A0 A1 l = B2 B3 l B4 l B5 l B6 l B7 l => 1 64 | 0 0
-search B0 A1 l = B2 A3 l => few | 1 4
+search B0 A1 l = B2 A3 l => few | 1 2
 search B0 B1 l = B2 B3 l => few | 3 2
 search B0 f l = B1 A2 l => few | 3 2
 search B0 f k = B1 A2 k => few | 3 2";
@@ -65,14 +65,16 @@ const SEARCHED_OF_BAGS: &str = "search A0 B1 t = g => few | 1 1
 search A0 B1 t = g h t => few | 3 2
 search A0 B1 t = g h i j k l m n o p q r s t t t t t t t t t t t t => few | 25 13
 search A0 A1 B2 t t = g h i t t => few | 11 6
-search A0 A1 B2 t t = A3 A4 B5 t t => few | 1 14
+search A0 A1 B2 t t = A3 A4 B5 t t => few | 1 7
 search A0 A1 t = g => few | 1 0
 search A0 A1 t = B2 => few | 1 1
 search B0 B1 t = g h t => few | 1 4
 search B0 B1 t = A2 A3 t A4 t A5 t A6 t A7 t => few | 1 64
 search A0 B1 B2 t t = A3 B4 B5 t t => few | 1 5
 search B0 B1 B2 B3 t t t = B4 B5 B6 B7 t t t => few | 1 1
-search B0 B1 B2 B3 t t t u = B4 B5 B6 B7 t t t u => few | 1 1";
+search B0 B1 B2 B3 t t t u = B4 B5 B6 B7 t t t u => few | 1 1
+search B0 B1 B2 B3 B4 t t t t = B5 B6 B7 B8 B9 t t t t => few | 1 1
+search A0 B1 B2 B3 B4 t t t t = A5 B6 B7 B8 B9 t t t t => few | 1 17";
 
 // The same over two sums with different identities, where nearly every class is added by both: it is asked of none
 // whether it is an identity. First families where each size has one summand more: such a class is asked only whether it
@@ -132,10 +134,10 @@ const TOWERS: &str = "general A0 A1 h j A2 h k A3 h j A4 h k = A5 A6 i => few | 
 general A0 A1 h j A2 h k A3 h j A4 h k A5 h j A6 h k = A7 A8 i => few | 3 2
 general A0 A1 h j A2 h k A3 h j A4 h k = A5 A6 k => few | 3 48
 general A0 A1 h j A2 h k A3 h j A4 h k = A5 A6 h j A7 h k A8 h j A9 h k => few | 61 145
-general A0 A1 h j A2 h i A3 h j A4 h i = A5 A6 h => few | 23 12
-general A0 A1 h j A2 h i A3 h j A4 h i A5 i = A6 j l i => few | 15 18
+general A0 A1 h j A2 h i A3 h j A4 h i = A5 A6 h => few | 11 2
+general A0 A1 h j A2 h i A3 h j A4 h i A5 i = A6 j l i => few | 17 18
 general A0 A1 i j A2 i h A3 i j A4 i h A5 i j A6 i h = A7 l => few | 1 0
-general A0 A1 h A2 i A1 k A2 h A3 i A2 k = A4 A5 h A6 i A5 k A6 h A7 i A6 k => few | 559 2304
+general A0 A1 h A2 i A1 k A2 h A3 i A2 k = A4 A5 h A6 i A5 k A6 h A7 i A6 k => few | 563 2304
 general A0 A1 i A2 h A2 i A3 h = A4 A5 i A6 h A6 i A7 h => few | 240 1753
 100 200 A0 A1 h j A2 h k A3 h j A4 h k = A5 A6 i => complete 2 | A0 A1 m A2 m A3 m A4 m A5 m A6 m = A0 A1 m A2 m A3 m A4 m j A4 h A3 j A2 h A0 A1 h k h k m g m; A0 A1 m A2 m A3 m A4 m A5 m A6 m = A0 A1 m A2 m A3 m A4 m g m j A4 h A3 j A2 h A0 A1 h k h k m
 100 200 A0 A1 h j A2 h k A3 h j A4 h k A5 h j A6 h k = A7 A8 i => complete 2
@@ -200,24 +202,46 @@ const CONSTANTS: &str =
 // A variable beside constants against another one beside others, with no identity and with one: there are many minimal
 // solutions of two constants, which are never taken. An element beside a variable against twelve elements, and against these
 // beside a variable; a variable that stands twice beside constants against one that stands three times; constants of which the
-// other side has half; and terms of two operators in place of constants. All numbers of unifiers are Maude's.
+// other side has half; and terms of two operators in place of constants. Fifteen constants and terms beside a variable that
+// stands twice, or three times: each is taken in one way, and other solutions have it more often. Then twelve terms of two
+// operators, or constants, against twelve terms of another one: 169 minimal solutions, of which the 25 are listed that have no
+// two different ones. All numbers of unifiers are Maude's.
 const SEARCHED_OF_CONSTANTS: &str =
     "general A0 f r g r h r i r j r k r = A1 l r m r n r o r => few | 1 2
-general A0 f s g s h s i s j s k s = A1 l s m s n s o s => few | 1 2
+general A0 f s g s h s i s j s k s = A1 l s m s n s o s => few | 1 1
 general A0 B1 r = f g r h r i r j r k r l r m r n r o r p r q r => few | 23 12
 general A0 B1 r = A2 f r g r h r i r j r k r l r m r n r o r p r q r => few | 1 14
 general A0 A0 r f r g r h r i r j r = A1 A1 r A1 r => few | 1 2
 general A0 f r g r h r i r j r k r l r m r n r o r p r q r = A1 f r g r h r i r j r k r => few | 1 1
 general A0 f u r g u r h u r i u r j u r = A9 A1 f v r A2 f v r A3 f v r A4 f v r A5 f v r => few | 1 2
+general A0 A0 r = A1 A1 r A1 r f r g r h r i r j r k r l r m r n r o r p r q r t r f u r f g v r => few | 1 2
+general A0 A0 r f r g r h r i r j r k r l r m r n r o r p r q r t r f u r f g v r = A1 A1 r A1 r => few | 1 2
+general A0 f u r g u r h u r i u r j u r k u r l u r m u r n u r o u r p u r q u r = Ad A1 f v r A2 f v r A3 f v r A4 f v r A5 f v r A6 f v r A7 f v r A8 f v r A9 f v r Aa f v r Ab f v r Ac f v r => few | 1 2
+general A0 f u r g u r h u r i u r j u r k u r l r m r n r o r p r q r = Ad A1 f v r A2 f v r A3 f v r A4 f v r A5 f v r A6 f v r A7 f v r A8 f v r A9 f v r Aa f v r Ab f v r Ac f v r => few | 1 2
+general A0 f r g r h r i r j r k r l r m r n r o r p r q r = Ad f u r g u r h u r i u r j u r k u r l u r m u r n u r o u r p u r q u r => few | 1 2
+general A0 f s g s h s i s j s k s l s m s n s o s p s q s = Ad f u s g u s h u s i u s j u s k u s l u s m u s n u s o u s p u s q u s => few | 1 1
 100 200 A0 f r g r h r i r j r k r = A1 l r m r n r o r => complete 2 | A0 A1 v = l m r n r o r A2 r f g r h r i r j r k r A2 r v; A0 A1 v = l m r n r o r f g r h r i r j r k r v
 100 200 A0 f s g s h s i s j s k s = A1 l s m s n s o s => complete 1 | A0 A1 v = l m s n s o s A2 s f g s h s i s j s k s A2 s v
 100 200 A0 B1 r = f g r h r i r j r k r l r m r n r o r p r q r => complete 12
 100 200 A0 B1 r = A2 f r g r h r i r j r k r l r m r n r o r p r q r => complete 14
 100 200 A0 A0 r f r g r h r i r j r = A1 A1 r A1 r => complete 2 | A0 A1 v = f g r h r i r j r A2 r A2 r A2 r f g r h r i r j r A2 r A2 r v; A0 A1 v = f g r h r i r j r f g r h r i r j r v
 100 200 A0 f r g r h r i r j r k r l r m r n r o r p r q r = A1 f r g r h r i r j r k r => complete 1 | A0 A1 v = A0 A0 l r m r n r o r p r q r v
-100 200 A0 f u r g u r h u r i u r j u r = A9 A1 f v r A2 f v r A3 f v r A4 f v r A5 f v r => complete 2";
+100 200 A0 f u r g u r h u r i u r j u r = A9 A1 f v r A2 f v r A3 f v r A4 f v r A5 f v r => complete 2
+100 200 A0 A0 r = A1 A1 r A1 r f r g r h r i r j r k r l r m r n r o r p r q r t r f u r f g v r => complete 2 | A0 A1 v = f g r h r i r j r k r l r m r n r o r p r q r t r f u r f g v r f g r h r i r j r k r l r m r n r o r p r q r t r f u r f g v r r A2 r A2 r A2 r f g r h r i r j r k r l r m r n r o r p r q r t r f u r f g v r A2 r A2 r v; A0 A1 v = f g r h r i r j r k r l r m r n r o r p r q r t r f u r f g v r f g r h r i r j r k r l r m r n r o r p r q r t r f u r f g v r r f g r h r i r j r k r l r m r n r o r p r q r t r f u r f g v r v
+100 200 A0 A0 r f r g r h r i r j r k r l r m r n r o r p r q r t r f u r f g v r = A1 A1 r A1 r => complete 2 | A0 A1 v = f g r h r i r j r k r l r m r n r o r p r q r t r f u r f g v r A2 r A2 r A2 r f g r h r i r j r k r l r m r n r o r p r q r t r f u r f g v r A2 r A2 r v; A0 A1 v = f g r h r i r j r k r l r m r n r o r p r q r t r f u r f g v r f g r h r i r j r k r l r m r n r o r p r q r t r f u r f g v r v
+100 200 A0 f u r g u r h u r i u r j u r k u r l u r m u r n u r o u r p u r q u r = Ad A1 f v r A2 f v r A3 f v r A4 f v r A5 f v r A6 f v r A7 f v r A8 f v r A9 f v r Aa f v r Ab f v r Ac f v r => complete 2 | A0 Ad v = A1 f v A2 f v r A3 f v r A4 f v r A5 f v r A6 f v r A7 f v r A8 f v r A9 f v r Aa f v r Ab f v r Ac f v r Ae r f u g u r h u r i u r j u r k u r l u r m u r n u r o u r p u r q u r Ae r v; A0 Ad v = A1 f v A2 f v r A3 f v r A4 f v r A5 f v r A6 f v r A7 f v r A8 f v r A9 f v r Aa f v r Ab f v r Ac f v r f u g u r h u r i u r j u r k u r l u r m u r n u r o u r p u r q u r v
+100 200 A0 f u r g u r h u r i u r j u r k u r l r m r n r o r p r q r = Ad A1 f v r A2 f v r A3 f v r A4 f v r A5 f v r A6 f v r A7 f v r A8 f v r A9 f v r Aa f v r Ab f v r Ac f v r => complete 2 | A0 Ad v = A1 f v A2 f v r A3 f v r A4 f v r A5 f v r A6 f v r A7 f v r A8 f v r A9 f v r Aa f v r Ab f v r Ac f v r Ae r f u g u r h u r i u r j u r k u r l r m r n r o r p r q r Ae r v; A0 Ad v = A1 f v A2 f v r A3 f v r A4 f v r A5 f v r A6 f v r A7 f v r A8 f v r A9 f v r Aa f v r Ab f v r Ac f v r f u g u r h u r i u r j u r k u r l r m r n r o r p r q r v
+100 200 A0 f r g r h r i r j r k r l r m r n r o r p r q r = Ad f u r g u r h u r i u r j u r k u r l u r m u r n u r o u r p u r q u r => complete 2 | A0 Ad v = f u g u r h u r i u r j u r k u r l u r m u r n u r o u r p u r q u r Ae r f g r h r i r j r k r l r m r n r o r p r q r Ae r v; A0 Ad v = f u g u r h u r i u r j u r k u r l u r m u r n u r o u r p u r q u r f g r h r i r j r k r l r m r n r o r p r q r v
+100 200 A0 f s g s h s i s j s k s l s m s n s o s p s q s = Ad f u s g u s h u s i u s j u s k u s l u s m u s n u s o u s p u s q u s => complete 1 | A0 Ad v = f u g u s h u s i u s j u s k u s l u s m u s n u s o u s p u s q u s Ae s f g s h s i s j s k s l s m s n s o s p s q s Ae s v";
+
+// The same of a variable and a constant against 65 commutative pairs, each beside another constant: 196 minimal solutions, 130 of
+// which have the constant and a pair, or the other constant. None of the 66 others has the constant, so that there is no choice.
+const SEARCHED_OF_PAIRS: &str =
+    "general Az o l = A0 A2 j f l A0 A3 j l f l A0 A4 j l f l A0 A5 j l f l A0 A6 j l f l A0 A7 j l f l A0 A8 j l f l A0 A9 j l f l A0 Aa j l f l A0 Ab j l f l A0 Ac j l f l A0 Ad j l f l A0 Ae j l f l A0 Af j l f l A0 Ag j l f l A0 Ah j l f l A0 Ai j l f l A0 Aj j l f l A0 Ak j l f l A0 Al j l f l A0 Am j l f l A0 An j l f l A0 Ao j l f l A0 Ap j l f l A0 Aq j l f l A0 Ar j l f l A0 As j l f l A0 At j l f l A0 Au j l f l A0 Av j l f l A0 Aw j l f l A0 Ax j l f l A0 Ay j l f l A1 A2 j l f l A1 A3 j l f l A1 A4 j l f l A1 A5 j l f l A1 A6 j l f l A1 A7 j l f l A1 A8 j l f l A1 A9 j l f l A1 Aa j l f l A1 Ab j l f l A1 Ac j l f l A1 Ad j l f l A1 Ae j l f l A1 Af j l f l A1 Ag j l f l A1 Ah j l f l A1 Ai j l f l A1 Aj j l f l A1 Ak j l f l A1 Al j l f l A1 Am j l f l A1 An j l f l A1 Ao j l f l A1 Ap j l f l A1 Aq j l f l A1 Ar j l f l A1 As j l f l A1 At j l f l A1 Au j l f l A1 Av j l f l A1 Aw j l f l A1 Ax j l f l => few | 1 0
+100 1000 Az o l = A0 A2 j f l A0 A3 j l f l A0 A4 j l f l A0 A5 j l f l A0 A6 j l f l A0 A7 j l f l A0 A8 j l f l A0 A9 j l f l A0 Aa j l f l A0 Ab j l f l A0 Ac j l f l A0 Ad j l f l A0 Ae j l f l A0 Af j l f l A0 Ag j l f l A0 Ah j l f l A0 Ai j l f l A0 Aj j l f l A0 Ak j l f l A0 Al j l f l A0 Am j l f l A0 An j l f l A0 Ao j l f l A0 Ap j l f l A0 Aq j l f l A0 Ar j l f l A0 As j l f l A0 At j l f l A0 Au j l f l A0 Av j l f l A0 Aw j l f l A0 Ax j l f l A0 Ay j l f l A1 A2 j l f l A1 A3 j l f l A1 A4 j l f l A1 A5 j l f l A1 A6 j l f l A1 A7 j l f l A1 A8 j l f l A1 A9 j l f l A1 Aa j l f l A1 Ab j l f l A1 Ac j l f l A1 Ad j l f l A1 Ae j l f l A1 Af j l f l A1 Ag j l f l A1 Ah j l f l A1 Ai j l f l A1 Aj j l f l A1 Ak j l f l A1 Al j l f l A1 Am j l f l A1 An j l f l A1 Ao j l f l A1 Ap j l f l A1 Aq j l f l A1 Ar j l f l A1 As j l f l A1 At j l f l A1 Au j l f l A1 Av j l f l A1 Aw j l f l A1 Ax j l f l => complete 0";
 
 #[test]
 fn different_constants_are_no_choice(rt: HostRuntime) -> Result<(), NoMemory> {
-    assert_rows(&rt, rt.alloc(), CONSTANTS, SEARCHED_OF_CONSTANTS)
+    assert_rows(&rt, rt.alloc(), CONSTANTS, SEARCHED_OF_CONSTANTS)?;
+    assert_rows(&rt, rt.alloc(), OPERATORS, SEARCHED_OF_PAIRS)
 }

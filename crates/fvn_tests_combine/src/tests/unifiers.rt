@@ -22,6 +22,11 @@ pub const WITH_ELEMENTS: &str =
 pub const BAGS: &str =
     "A B; A < B; f : -> B; g : -> A; h : -> A; i : -> A; j : -> A; k : -> A; l : -> A; m : -> A; n : -> A; o : -> A; p : -> A; q : -> A; r : -> A; s : -> A; t : B B -> B [assoc comm id: f]; u : B -> A; v : B B -> A";
 
+/// Elements A below filled bags B below bags C; the empty bag f, an element g, and the sum h of bags, which is filled where one
+/// of the two is.
+const FILLED: &str =
+    "A B C; A < B; B < C; f : -> C; g : -> A; h : C C -> C [assoc comm id: f]; h : B C -> B [assoc comm id: f]";
+
 /// One sort A; constants f, g and j, sums h and k with the identity f, and a sum i with the identity g.
 pub const RINGS: &str =
     "A; f : -> A; g : -> A; h : A A -> A [assoc comm id: f]; i : A A -> A [assoc comm id: g]; j : -> A; k : A A -> A [assoc comm id: f]";
@@ -164,8 +169,10 @@ const SOLVED: &str = "4 20 A0 A1 k = A2 A3 k => unifiers 4
 100 1000 A0* = A1* => complete 1 | A0 A1 i = A0 A0 i
 100 1000 f* = g* => complete 0";
 
-// The same over sums that are not neutral: 25 solutions are listed where all but one stand in columns of elements.
-const SOLVED_WITH_ELEMENTS: &str = "4 20 A0 A1 l A2 l A3 l A4 l = A5 A6 l A7 l A8 l A9 l => basis 0
+// The same over sums that are not neutral: 25 solutions are listed where all may be the identity, and where all but one
+// stand in columns of elements.
+const SOLVED_WITH_ELEMENTS: &str =
+    "4 20 A0 A1 l A2 l A3 l A4 l = A5 A6 l A7 l A8 l A9 l => complete 1
 4 20 B0 B1 l B2 l A3 l A4 l = A5 B6 l B7 l B8 l A9 l => unifiers 4
 4 20 B0 B1 l B2 l B3 l A4 l = B5 B6 l B7 l B8 l A9 l => unifiers 4
 100 200 A0 A1 l = A2 A3 l => complete 1 | A0 A1 i A2 i A3 i = A1 A3 l A2 A4 l i A1 A2 l i A3 A4 l i
@@ -184,7 +191,8 @@ const SOLVED_WITH_ELEMENTS: &str = "4 20 A0 A1 l A2 l A3 l A4 l = A5 A6 l A7 l A
 100 200 A0 A1 l = B2 B3 l B4 l B5 l B6 l B7 l => complete 64";
 
 // The same over bags: an element is one summand, so that of thirteen elements only one is it. What no element is in may
-// be empty, so that four bags are four others in one way, also inside an element.
+// be empty, so that four bags are four others in one way, also inside an element, and so are five, eight, and five beside
+// elements, though they have 25 minimal solutions and more.
 const SOLVED_OF_BAGS: &str = "100 200 A0 B1 t = g => complete 1
 100 200 A0 B1 t = g h t => complete 2
 100 200 A0 B1 t = g h i t t => complete 3
@@ -201,7 +209,20 @@ const SOLVED_OF_BAGS: &str = "100 200 A0 B1 t = g => complete 1
 100 200 B0 B1 B0 B1 t u t t = g B2 B3 B4 t u t t => complete 8
 100 200 B0 B1 t B0 B2 t v = B3 B4 t B3 B5 t v => complete 1
 100 200 B0 B1 B2 B3 t t t = B4 B5 B6 B7 t t t => complete 1
-100 200 B0 B1 B2 B3 t t t u = B4 B5 B6 B7 t t t u => complete 1";
+100 200 B0 B1 B2 B3 t t t u = B4 B5 B6 B7 t t t u => complete 1
+100 200 B0 B1 B2 B3 B4 t t t t = B5 B6 B7 B8 B9 t t t t => complete 1
+100 200 B0 B1 B2 B3 B4 Bb Bc Bd t t t t t t t = B5 B6 B7 B8 B9 Be Bf Bg t t t t t t t => complete 1
+100 200 A0 B1 B2 B3 B4 t t t t = B5 B6 B7 B8 B9 t t t t => complete 5
+100 200 A0 B1 B2 B3 B4 t t t t = A5 B6 B7 B8 B9 t t t t => complete 17
+100 200 B0 B1 B2 B3 g t t t t = B4 B5 B6 B7 h t t t t => complete 16
+100 200 B0 B1 B2 B3 B4 t t t t u = B5 B6 B7 B8 B9 t t t t u => complete 1";
+
+// The same over bags of which some are filled: where a filled one has five summands, one of them is filled, which leaves many
+// ways, and such systems are not gone through.
+const SOLVED_OF_FILLED: &str = "100 200 B0 B1 h = B2 B3 h => complete 2
+100 200 C0 C1 C2 C3 C4 h h h h = C5 C6 C7 C8 C9 h h h h => complete 1
+100 200 B0 C1 C2 C3 C4 h h h h = C5 C6 C7 C8 C9 h h h h => basis 0
+100 200 B0 B1 B2 B3 B4 h h h h = B5 B6 B7 B8 B9 h h h h => basis 0";
 
 // The same over sums with different identities, first over two: a class that both use may be the identity of either. Then
 // over all three, where it may be the one that two of them have.
@@ -274,5 +295,6 @@ fn problems_are_solved_within_limits(rt: HostRuntime) -> Result<(), NoMemory> {
     assert_rows(&rt, rt.alloc(), OPERATORS, SOLVED)?;
     assert_rows(&rt, rt.alloc(), WITH_ELEMENTS, SOLVED_WITH_ELEMENTS)?;
     assert_rows(&rt, rt.alloc(), BAGS, SOLVED_OF_BAGS)?;
+    assert_rows(&rt, rt.alloc(), FILLED, SOLVED_OF_FILLED)?;
     assert_rows(&rt, rt.alloc(), RINGS, SOLVED_OF_RINGS)
 }

@@ -3,9 +3,9 @@ use Rattle.std.proofs.Common.{◌≡◌, ℕ, ◌+◌, ◌-◌, ◌≤◌, [], l
 use Rattle.std.proofs.lemmas.Bool.{iff_false}
 use Rattle.std.proofs.lemmas.List.{take_all}
 use Rattle.fvn_acunify.specs.inner.Prefix.{IsOpen}
-use Rattle.fvn_acunify.proofs.Prefixes.{IsWalked, IsWalked-start, IsWalked-taken, IsWalked-skipped, dead-from_closed, dead-from_touched, dead-from_missing, full-from_taken, full-from_skipped, IsFullFrom, listed-from_open, open-on, part-le, get_or-zeros}
+use Rattle.fvn_acunify.proofs.Prefixes.{IsWalked, IsWalked-start, IsWalked-taken, IsWalked-skipped, dead-from_closed, dead-from_two, dead-from_missing, full-from_taken, full-from_skipped, IsFullFrom, listed-from_open, open-on, part-le, get_or-zeros}
 use Rattle.fvn_acunify.proofs.prefix.dead_place.Goals as goal
-use Rattle.fvn_acunify.proofs.prefix.dead_place.Goals.{After-is_open-in-loop-place, then-number-place-eq1+else-touches_two, else-number-place-eq1+else-is_asked}
+use Rattle.fvn_acunify.proofs.prefix.dead_place.Goals.{After-is_open-in-loop-place, then-number-place-eq1+else-uses_two, else-number-place-eq1+else-is_asked}
 
 pub returns-then-not-is_open-clause-dead : goal.returns-then-not-is_open-clause-dead
 returns-then-not-is_open-clause-dead c =
@@ -17,10 +17,10 @@ returns-then-not-is_open-clause-dead c =
     (λ all_open. iff_false c.is_open.ensures c.if-not-is_open.true
     (subst (λ l. IsOpen [] c.args.constants.now c.args.may_be_zero.now c.args.bounds.now l sums) (take_all (length basis) basis (omega arith)) all_open))
 
-pub returns-then-touches_two-clause-dead : goal.returns-then-touches_two-clause-dead
-returns-then-touches_two-clause-dead c =
-    dead-from_touched c.args.full.now c.args.constants.now c.args.may_be_zero.now c.args.bounds.now c.args.basis.now c.args.number (c.loop-place.place - 1) c.as_slice-parts.result.now c.index-basis-place.result
-    (omega (arith, c.loop-place.invariant.walked.inside)) c.if-number-place-eq1.true c.as_slice-parts.ensures (c.touches_two.ensures.0 c.if-touches_two.true)
+pub returns-then-uses_two-clause-dead : goal.returns-then-uses_two-clause-dead
+returns-then-uses_two-clause-dead c =
+    dead-from_two c.args.full.now c.args.constants.now c.args.may_be_zero.now c.args.bounds.now c.args.basis.now c.args.number (c.loop-place.place - 1) c.as_slice-parts.result.now c.index-basis-place.result
+    (omega (arith, c.loop-place.invariant.walked.inside)) c.if-number-place-eq1.true c.as_slice-parts.ensures (c.uses_two.ensures.0 c.if-uses_two.true)
 
 -- one place further down, with the solution there taken or skipped
 walked_on : (c : After-is_open-in-loop-place) → IsWalked c.args.constants.now c.args.basis.now c.args.number (c.loop-place.place - 1) c.if-number-place-eq1.sums
@@ -31,9 +31,9 @@ walked_on c =
     let before = c.loop-place.invariant.walked in
     let e : p + 1 ≡ c.loop-place.place = omega arith in
     elim c.if-number-place-eq1.branch [
-      | then-number-place-eq1+else-touches_two w ↦
+      | then-number-place-eq1+else-uses_two w ↦
           rw w.sums-is (IsWalked-taken constants basis c.args.number c.loop-place.place p c.loop-place.sums w.add.new.sums c.as_slice-parts.result.now c.index-basis-place.result e
-          w.if-number-place-eq1.true c.as_slice-parts.ensures (iff_false w.touches_two.ensures w.if-touches_two.false)
+          w.if-number-place-eq1.true c.as_slice-parts.ensures (iff_false w.uses_two.ensures w.if-uses_two.false)
           (part-le _ constants basis c.requires.bounded p c.index-basis-place.result c.as_slice-parts.result.now (omega (arith, before.inside)) c.as_slice-parts.ensures) w.add.ensures before)
       | else-number-place-eq1+else-is_asked w ↦
           rw w.sums-is (IsWalked-skipped constants basis c.args.number c.loop-place.place p c.loop-place.sums e w.if-number-place-eq1.false before)
@@ -44,7 +44,7 @@ full_on c =
     let p = c.loop-place.place - 1 in
     let e : p + 1 ≡ c.loop-place.place = omega arith in
     elim c.if-number-place-eq1.branch [
-      | then-number-place-eq1+else-touches_two w ↦
+      | then-number-place-eq1+else-uses_two w ↦
           full-from_taken c.args.full.now c.args.constants.now c.args.basis.now c.args.number c.loop-place.place p e w.if-number-place-eq1.true c.loop-place.invariant.full_from
       | else-number-place-eq1+else-is_asked w ↦
           full-from_skipped c.args.full.now c.args.constants.now c.args.basis.now c.args.number c.loop-place.place p c.as_slice-parts.result.now c.index-basis-place.result e
@@ -55,7 +55,7 @@ full_on c =
 sums_on : (c : After-is_open-in-loop-place) → (j : ℕ) → slice_index c.loop-place.sums j ≤ slice_index c.if-number-place-eq1.sums j
 sums_on c j =
     elim c.if-number-place-eq1.branch [
-      | then-number-place-eq1+else-touches_two w ↦ rw w.sums-is (omega (arith, w.add.ensures j))
+      | then-number-place-eq1+else-uses_two w ↦ rw w.sums-is (omega (arith, w.add.ensures j))
       | else-number-place-eq1+else-is_asked w ↦ rw w.sums-is (omega arith)
     ]
 

@@ -16,6 +16,9 @@ part_last-requires c = record { closed = c.requires.closed; ordered = c.requires
 pub part_last_general-requires : goal.part_last_general-requires
 part_last_general-requires c = record { closed = c.requires.closed; ordered = c.requires.ordered; looked = subst (IsLooked c.args.task.now c.args.tree.now) c.in-Parted.is c.in_ok-look.ensures }
 
+pub part_last_all-requires : goal.part_last_all-requires
+part_last_all-requires c = record { closed = c.requires.closed; ordered = c.requires.ordered; looked = subst (IsLooked c.args.task.now c.args.tree.now) c.in-PartedAll.is c.in_ok-look.ensures }
+
 pub pass_last-requires : goal.pass_last-requires
 pass_last-requires c = record { closed = c.requires.closed; ordered = c.requires.ordered; looked = subst (IsLooked c.args.task.now c.args.tree.now) c.in-Passed.is c.in_ok-look.ensures }
 

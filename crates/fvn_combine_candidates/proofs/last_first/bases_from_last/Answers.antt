@@ -37,6 +37,11 @@ found_basis-requires-clause-sums c = are_sums (goal.at.found_basis-requires-clau
 pub are_listed-requires-clause-associative : goal.are_listed-requires-clause-associative
 are_listed-requires-clause-associative c = associative (goal.at.are_listed-requires-clause-associative c).After-index-sums-i
 
+pub are_listed-requires-clause-listed : goal.are_listed-requires-clause-listed
+are_listed-requires-clause-listed c =
+    let sums = c.args.reading.now.sums in
+    listed_at sums c.loop-i.i c.index-sums-i.result (at (goal.at.are_listed-requires-clause-listed c).After-index-sums-i)
+
 pub are_listed-requires-clause-sums : goal.are_listed-requires-clause-sums
 are_listed-requires-clause-sums c = are_sums (goal.at.are_listed-requires-clause-sums c).After-index-sums-i
 

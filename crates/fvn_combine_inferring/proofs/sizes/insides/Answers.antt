@@ -1,15 +1,11 @@
--- The operators of a reading are associative.
-use Rattle.std.proofs.Common.{sym, subst, Contains}
-use Rattle.std.proofs.lemmas.List.Elements.{Contains-get_or, All-nil}
-use Rattle.fvn_combine_leaves.proofs.ReadOfState.{sum_operator}
+-- Nothing is noted at first; then what one more node contains.
+use Rattle.std.proofs.Common.{◌<◌, length, sym, subst}
+use Rattle.std.proofs.lemmas.List.Elements.{All-nil}
 use Rattle.fvn_combine_inferring.specs.inner.Sizes.{IsSaid, AreSaid, size}
 use Rattle.fvn_combine_inferring.proofs.sizes.insides.Goals as goal
 
-pub note_arguments-requires-clause-list : goal.note_arguments-requires-clause-list
-note_arguments-requires-clause-list c values go = subst (AreSaid (size c.args.state.now values)) (sym c.new-list.ensures.items) (All-nil (IsSaid (size c.args.state.now values)))
+pub loop-i-init : goal.loop-i-init
+loop-i-init c values go = subst (AreSaid (size c.args.state.now values)) (sym c.new-list.ensures.items) (All-nil (IsSaid (size c.args.state.now values)))
 
-pub note_insides-requires-clause-associative : goal.note_insides-requires-clause-associative
-note_insides-requires-clause-associative c =
-    (sum_operator c.args.sig.now c.args.table.now c.recall_well_made.ensures c.args.state.now c.requires.closed c.args.reading.now c.requires.reading c.sums-item.result
-    (subst (λ l. Contains l c.sums-item.result) c.as_slice-sums-items.ensures
-    (subst (Contains c.as_slice-sums-items.result.now) (sym c.sums-item.is) (Contains-get_or c.as_slice-sums-items.result.now c.loop-sums.sums-index _ c.loop-sums-test.true)))).associative
+pub note_node-requires-clause-within : goal.note_node-requires-clause-within
+note_node-requires-clause-within c = subst (λ ns. c.loop-i.i < length ns) c.nodes-i-end.ensures c.loop-i-test.true

@@ -9,6 +9,6 @@ pub returns : goal.returns
 returns c t w said =
     let k = c.args.k in
     let l = c.args.l in
-    let begun = note_more w k _ _ k 1 c.note-new.ensures (omega arith) (none_noted w k 64) in
+    let begun = note_more w k _ _ k 1 c.note-new.ensures (omega arith) (none_noted w k 512) in
     let all = c.follow_chains.ensures w k said begun in
     subst (IsNoted w k l) (sym c.noted.ensures ∙ eqb-true c.noted.result 2 t) (all l)

@@ -1,5 +1,5 @@
 -- The law, by its lemma.
-use Rattle.fvn_combine_loose.proofs.Loosening.{loose_classes}
+use Rattle.fvn_combine_loose.proofs.PartedPairs.{loose_classes}
 use Rattle.fvn_combine_loose.proofs.laws.loose_classes_part.Goals as goal
 
 pub returns : goal.returns

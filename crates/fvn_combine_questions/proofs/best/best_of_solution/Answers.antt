@@ -1,8 +1,9 @@
 -- One more column.
 use Rattle.std.proofs.Common.{ℕ, ◌+◌, ◌<◌, ◌≤◌, length, sym, ◌∙◌, inl, inr, arith}
 use Rattle.std.proofs.lemmas.Bool.{false≢true}
+use Rattle.std.specs.Prelude.{IsFalse}
 use Rattle.fvn_combine_questions.specs.inner.Touched.{IsNotedIn, StandsIn, ArePastColumns, IsPastSolution}
-use Rattle.fvn_combine_questions.proofs.Ranking.{best_before, best_asked, best_weaker, best_above}
+use Rattle.fvn_combine_questions.proofs.Ranking.{best_before, best_asked, best_weaker, best_above_where}
 use Rattle.fvn_combine_questions.proofs.best.best_of_solution.Goals as goal
 
 pub loop-step-init : goal.loop-step-init
@@ -11,7 +12,7 @@ loop-step-init c =
     let r = a.reading.now in
     let e = c.args.sums.now in
     let P = λ (i : ℕ). StandsIn r e (IsNotedIn a.sig.now a.heads.now) c.args.v.now i → ArePastColumns r e a.state.now (IsNotedIn a.sig.now a.heads.now) c.args.v.now i in
-    best_before a.state.now ((i : ℕ) → i < length e.columns → length e.columns ≤ i + 0 → P i) c.args.before c.requires.asked (λ i within over. absurd (omega (arith, within, over)))
+    best_before a.state.now (IsFalse c.args.single → (i : ℕ) → i < length e.columns → length e.columns ≤ i + 0 → P i) c.args.before c.requires.asked (λ full i within over. absurd (omega (arith, within, over)))
 
 pub best_of_column-best-requires-clause-asked : goal.best_of_column-best-requires-clause-asked
 best_of_column-best-requires-clause-asked c =
@@ -19,18 +20,18 @@ best_of_column-best-requires-clause-asked c =
     let r = a.reading.now in
     let e = c.args.sums.now in
     let P = λ (i : ℕ). StandsIn r e (IsNotedIn a.sig.now a.heads.now) c.args.v.now i → ArePastColumns r e a.state.now (IsNotedIn a.sig.now a.heads.now) c.args.v.now i in
-    best_asked a.state.now ((i : ℕ) → i < length e.columns → length e.columns ≤ i + c.loop-step.step → P i) c.args.before c.loop-step.best c.loop-step.invariant
+    best_asked a.state.now (IsFalse c.args.single → (i : ℕ) → i < length e.columns → length e.columns ≤ i + c.loop-step.step → P i) c.args.before c.loop-step.best c.loop-step.invariant
 
-pub loop-step-preserved-then-not-stands : goal.loop-step-preserved-then-not-stands
-loop-step-preserved-then-not-stands c =
+pub loop-step-preserved-then-not-is_asked_of : goal.loop-step-preserved-then-not-is_asked_of
+loop-step-preserved-then-not-is_asked_of c =
     let a = c.args.asking.now in
     let r = a.reading.now in
     let e = c.args.sums.now in
     let P = λ (i : ℕ). StandsIn r e (IsNotedIn a.sig.now a.heads.now) c.args.v.now i → ArePastColumns r e a.state.now (IsNotedIn a.sig.now a.heads.now) c.args.v.now i in
-    best_above a.state.now P c.args.before c.loop-step.best c.loop-step.best (length e.columns) c.loop-step.step c.backwards-i.result (c.backwards-i.ensures ∙ c.len-count.ensures) c.loop-step.invariant
-    (best_before a.state.now (P c.backwards-i.result) c.loop-step.best
-    (best_asked a.state.now ((i : ℕ) → i < length e.columns → length e.columns ≤ i + c.loop-step.step → P i) c.args.before c.loop-step.best c.loop-step.invariant)
-    (λ own. absurd (false≢true (sym c.if-not-stands.true ∙ c.stands.ensures own))))
+    best_above_where a.state.now (IsFalse c.args.single) P c.args.before c.loop-step.best c.loop-step.best (length e.columns) c.loop-step.step c.column_at-i.result (λ full. c.column_at-i.ensures.backwards full ∙ c.len-count.ensures) c.loop-step.invariant
+    (best_before a.state.now (IsFalse c.args.single → P c.column_at-i.result) c.loop-step.best
+    (best_asked a.state.now (IsFalse c.args.single → (i : ℕ) → i < length e.columns → length e.columns ≤ i + c.loop-step.step → P i) c.args.before c.loop-step.best c.loop-step.invariant)
+    (λ full own. absurd (false≢true (sym c.if-not-is_asked_of.true ∙ c.is_asked_of.ensures full own))))
 
 pub loop-step-preserved : goal.loop-step-preserved
 loop-step-preserved c =
@@ -38,13 +39,13 @@ loop-step-preserved c =
     let r = a.reading.now in
     let e = c.args.sums.now in
     let P = λ (i : ℕ). StandsIn r e (IsNotedIn a.sig.now a.heads.now) c.args.v.now i → ArePastColumns r e a.state.now (IsNotedIn a.sig.now a.heads.now) c.args.v.now i in
-    best_above a.state.now P c.args.before c.loop-step.best c.best_of_column-best.result (length e.columns) c.loop-step.step c.backwards-i.result (c.backwards-i.ensures ∙ c.len-count.ensures) c.loop-step.invariant
-    (best_weaker a.state.now (ArePastColumns r e a.state.now (IsNotedIn a.sig.now a.heads.now) c.args.v.now c.backwards-i.result) (P c.backwards-i.result) c.loop-step.best c.best_of_column-best.result (λ none past own. past) c.best_of_column-best.ensures)
+    best_above_where a.state.now (IsFalse c.args.single) P c.args.before c.loop-step.best c.best_of_column-best.result (length e.columns) c.loop-step.step c.column_at-i.result (λ full. c.column_at-i.ensures.backwards full ∙ c.len-count.ensures) c.loop-step.invariant
+    (best_weaker a.state.now (ArePastColumns r e a.state.now (IsNotedIn a.sig.now a.heads.now) c.args.v.now c.column_at-i.result) (IsFalse c.args.single → P c.column_at-i.result) c.loop-step.best c.best_of_column-best.result (λ none past full own. past) c.best_of_column-best.ensures)
 
 pub returns-then-is_dead : goal.returns-then-is_dead
 returns-then-is_dead c =
     let a = c.args.asking.now in
-    best_before a.state.now (IsPastSolution a.reading.now c.args.sums.now a.state.now (IsNotedIn a.sig.now a.heads.now) c.args.v.now) c.args.before c.requires.asked (inl (c.is_dead.ensures c.if-is_dead.true))
+    best_before a.state.now (IsFalse c.args.single → IsPastSolution a.reading.now c.args.sums.now a.state.now (IsNotedIn a.sig.now a.heads.now) c.args.v.now) c.args.before c.requires.asked (λ full. inl (c.is_dead.ensures c.if-is_dead.true))
 
 pub returns : goal.returns
 returns c =
@@ -53,6 +54,6 @@ returns c =
     let e = c.args.sums.now in
     let P = λ (i : ℕ). StandsIn r e (IsNotedIn a.sig.now a.heads.now) c.args.v.now i → ArePastColumns r e a.state.now (IsNotedIn a.sig.now a.heads.now) c.args.v.now i in
     let over = c.loop-step-test.false in
-    best_weaker a.state.now ((i : ℕ) → i < length e.columns → length e.columns ≤ i + c.loop-step.step → P i) (IsPastSolution r e a.state.now (IsNotedIn a.sig.now a.heads.now) c.args.v.now) c.args.before c.loop-step.best
-    (λ none past. inr (λ i within. past i within (omega (arith, within, over))))
+    best_weaker a.state.now (IsFalse c.args.single → (i : ℕ) → i < length e.columns → length e.columns ≤ i + c.loop-step.step → P i) (IsFalse c.args.single → IsPastSolution r e a.state.now (IsNotedIn a.sig.now a.heads.now) c.args.v.now) c.args.before c.loop-step.best
+    (λ none past full. inr (λ i within. past full i within (omega (arith, within, over))))
     c.loop-step.invariant

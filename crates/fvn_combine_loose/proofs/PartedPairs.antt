@@ -1,0 +1,59 @@
+-- Where loose classes part the nodes of each pair, each unifier of the state has a more general one under which all of them are apart.
+use Rattle.std.proofs.Common.{◌≢◌, ℕ, List, [], ◌∷◌, get_or, All}
+use Rattle.std.proofs.lemmas.List.Elements.{All-nil, All-cons, All-head, All-tail}
+use Rattle.fvn_terms.specs.declared.declarations.Declarations.{Declarations}
+use Rattle.fvn_terms.specs.Substitution.{Substitution}
+use Rattle.fvn_terms.specs.Unifiers.{Problem}
+use Rattle.fvn_forms.specs.Good.{IsGood}
+use Rattle.fvn_flat.specs.Problems.{IsProblem}
+use Rattle.fvn_flat.specs.SolvedLists.{IsKindUnifier}
+use Rattle.fvn_combine_nodes.specs.Table.{NodeTable, IsWellMade, IsTableOf}
+use Rattle.fvn_combine_nodes.specs.States.{Admits, IsClosed}
+use Rattle.fvn_combine_nodes.specs.Unifiers.{kernel}
+use Rattle.fvn_combine_nodes.specs.declared.state.State.{State}
+use Rattle.fvn_combine_loose.specs.Loose.{AreParted}
+use Rattle.fvn_combine_loose.specs.Laws.{IsLoosened, LooseClassesPart}
+use Rattle.fvn_combine_loose.proofs.Setting.{Setting}
+use Rattle.fvn_combine_loose.proofs.Loosened.{loosened}
+use Rattle.fvn_combine_loose.proofs.Admitted.{before, loosened_apart}
+use Rattle.fvn_combine_loose.proofs.Loosening.{is_loosened}
+use Rattle.fvn_combine_loose.proofs.Spreading.{loosened_itself, loosened_chain}
+
+-- the nodes of a pair are in two classes under v
+abbrev AreApartUnder : Declarations → NodeTable → Substitution → ℕ × ℕ → Type 0
+AreApartUnder d t v p = kernel d v t.nodes p.0 ≢ kernel d v t.nodes p.1
+
+-- a loose class parts the nodes of a pair
+abbrev IsPartedPair : Declarations → NodeTable → State → ℕ × ℕ → Type 0
+IsPartedPair d t s p = AreParted d t s p.0 p.1
+
+module _ {d : Declarations} {problem : Problem} {t : NodeTable} {s : State} {z : ℕ} {heights : List ℕ} {u : Substitution} (g : Setting d problem t s z heights u) where
+  -- what was apart is so still
+  all_kept : (pairs : List (ℕ × ℕ)) → All (IsPartedPair d t s) pairs → All (AreApartUnder d t u) pairs → All (AreApartUnder d t (loosened g)) pairs
+  all_kept pairs own old = λ k e l same.
+      let p = get_or pairs k e in
+      let h : IsPartedPair d t s p = own k e l in
+      old k e l (before g p.0 p.1 h.left h.right same)
+
+module _ (d : Declarations) (good : IsGood d) (problem : Problem) (kinded : IsProblem d problem) (t : NodeTable) (made : IsWellMade t) (table : IsTableOf d problem t) (s : State) (closed : IsClosed d t s) where
+  -- one pair more
+  one_parted : (p : ℕ × ℕ) (pairs : List (ℕ × ℕ)) → IsPartedPair d t s p → All (IsPartedPair d t s) pairs → (u v : Substitution) → IsLoosened d problem t s u v → All (AreApartUnder d t v) pairs
+      → (w : Substitution) × IsLoosened d problem t s u w × All (AreApartUnder d t w) (p ∷ pairs)
+  one_parted p pairs own others u v first apart =
+      let g : Setting d problem t s own.bottom own.heights v =
+      record { good = good; kinded = kinded; made = made; table = table; closed = closed; loose = own.loose; unifier = first.unifies; admits = first.admits }
+      in (
+        loosened g,
+        loosened_chain d good problem kinded t made table s closed u v (loosened g) first (is_loosened g),
+        All-cons (AreApartUnder d t (loosened g)) p pairs (loosened_apart g p.0 p.1 own.left own.right own.one) (all_kept g pairs others apart),
+      )
+
+  all_parted : (pairs : List (ℕ × ℕ)) → All (IsPartedPair d t s) pairs → (u : Substitution) → IsKindUnifier d problem u → Admits s (kernel d u t.nodes)
+      → (v : Substitution) × IsLoosened d problem t s u v × All (AreApartUnder d t v) pairs
+  all_parted [] own u unifier admits = (u, loosened_itself d good problem kinded t made table s closed u unifier admits, All-nil (AreApartUnder d t u))
+  all_parted (p ∷ pairs) own u unifier admits =
+      let r = all_parted pairs (All-tail (IsPartedPair d t s) p pairs own) u unifier admits in
+      one_parted p pairs (All-head (IsPartedPair d t s) p pairs own) (All-tail (IsPartedPair d t s) p pairs own) u r.0 r.1 r.2
+
+pub loose_classes : LooseClassesPart
+loose_classes d good problem kinded t made table s closed pairs own u unifier admits = all_parted d good problem kinded t made table s closed pairs own u unifier admits
