@@ -14,6 +14,11 @@ const MANY_STATES: u64 = 4096;
 // and each try takes some hundredths of a second.
 const HARD_TRIES: u64 = 8;
 
+// How often in a row a refused system is solved in another order too, at each state: from then on at each 32nd state alone.
+const TRIES: u64 = 64;
+
+const TURN: u64 = 32;
+
 /// Sum systems that were solved, whether one was refused, how often one was not solved in another order either, how many states
 /// were asked, and how many choices were tried.
 #[derive(Drop)]
@@ -54,6 +59,14 @@ impl Effort {
     // Whether it is tried hard to solve a refused system.
     pub(crate) fn is_wide(&self) -> bool {
         self.failed < HARD_TRIES
+    }
+
+    // Whether it is not tried at this state to solve a refused system in another order, but where no question is open.
+    pub(crate) fn is_passed_over(&self) -> bool {
+        if self.failed < TRIES {
+            return false;
+        }
+        self.failed % TURN != 0
     }
 
     // A refused system was not solved in another order either.

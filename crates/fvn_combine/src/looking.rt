@@ -265,6 +265,31 @@ fn look_at_refused(
     }
 }
 
+// The same, where it was not tried whether its minimal solutions may still be known: a question comes first.
+fn look_at_passed(
+    task: &Task,
+    state: &State,
+    reading: Reading,
+    known: Known,
+    f: OpId,
+    system: System,
+) -> Result<Looked, NoMemory>
+    requires near { IsNearLeaf task.now.declarations task.now.table state.now }
+    requires kinds { AreOfOneKind task.now.declarations task.now.table (class_of state.now) }
+    requires reading { IsReading task.now.declarations task.now.table (class_of state.now) reading }
+    requires heads { TellHeads task.now.declarations task.now.table state.now known.sorted
+        known.heads.items }
+    requires sorted { known.sorted ≡ task.now.sorted }
+    requires refused { IsFirstRefused reading.sums f system }
+    ensures { IfOk result (IsLookedAt task.now state.now) }
+{
+    task.recall();
+    match question_on_all(task.sig, &task.table, state, &reading) {
+        Some(pair) => Ok(asked_at_refusal(task, state, &known, pair.0, pair.1)),
+        None => look_at_refused(task, state, reading, known, f, system),
+    }
+}
+
 // What is asked for by a state that is nearly a leaf, where systems are solved from their first rows on. Where a system was
 // refused before, they were not solved from the last rows on either.
 fn look_at_systems(
@@ -294,7 +319,11 @@ fn look_at_systems(
         Err(OpenFault::NoMemory) => Err(NoMemory),
         Err(OpenFault::Basis(f, system)) => {
             if effort.refused {
+                let passed = effort.is_passed_over();
                 effort.count_failure();
+                if passed {
+                    return look_at_passed(task, state, reading, known, f, system);
+                }
                 return Ok(asked_or_refused(task, state, &reading, &known, f, system));
             }
             effort.refused = true;
@@ -322,6 +351,9 @@ fn turned_bases(
 {
     task.recall();
     if !effort.refused {
+        return Ok(None);
+    }
+    if effort.is_passed_over() {
         return Ok(None);
     }
     let found = bases_from_last(

@@ -168,6 +168,6 @@ pub(crate) fn is_held_within(held: &mut Vec<Inside>, insides: &[Inside]) -> Resu
         return Ok(false);
     }
     held.extend_from_slice(insides)?;
-    let circular = is_circular(held.as_slice(), true);
+    let circular = is_circular(held.as_slice());
     Ok(circular)
 }

@@ -17,7 +17,7 @@ use crate::heads::Known;
 use crate::holding::{Pairs, is_held_within, note_row};
 use crate::rows::{Row, row_at};
 use crate::rules::rule;
-use crate::sizes::{has_several, insides, is_circular};
+use crate::sizes::{insides, is_circular};
 use crate::standing_sums::stood_for;
 use fvn_combine_leaves::Reading;
 use fvn_combine_nodes::{State, Table};
@@ -226,7 +226,7 @@ pub fn infer(
         AreEqualPairs sig.now table.now state.now known.now.sorted r.1.items) }
 {
     let list = insides(alloc, sig, table, state, reading, known)?;
-    if is_circular(list.as_slice(), has_several(reading)) {
+    if is_circular(list.as_slice()) {
         return Ok((Inferred::Impossible, Vec::new(alloc)));
     }
     let held = Vec::new(alloc);

@@ -164,11 +164,6 @@ fn either(a: bool, b: bool) -> bool
     b
 }
 
-// Whether several operators are read: where one alone is, no chains are looked for before its rows are read.
-pub(crate) fn has_several(reading: &Reading) -> bool {
-    reading.sums.len() > 1
-}
-
 // What is noted of class k; nothing where it is beyond the places.
 fn noted(marks: &[u8], k: usize) -> u8
     ensures { result ≡ slice_index_or marks.now k 0 }
@@ -381,10 +376,7 @@ fn are_ranked(pairs: &[Inside]) -> bool {
 }
 
 // Whether chains may say that a class has fewer symbols than itself, and are to be followed.
-fn may_be_circular(pairs: &[Inside], chained: bool) -> bool {
-    if !chained {
-        return false;
-    }
+fn may_be_circular(pairs: &[Inside]) -> bool {
     if pairs.len() > PAIRS {
         return false;
     }
@@ -392,10 +384,10 @@ fn may_be_circular(pairs: &[Inside], chained: bool) -> bool {
 }
 
 // Whether a class has fewer symbols than itself.
-pub(crate) fn is_circular(pairs: &[Inside], chained: bool) -> bool
+pub(crate) fn is_circular(pairs: &[Inside]) -> bool
     ensures { IsTrue result → (w : ℕ → ℕ) → AreSaid w pairs.now → ⊥ }
 {
-    let followed = may_be_circular(pairs, chained);
+    let followed = may_be_circular(pairs);
     for pair in pairs {
         if begins_circle(pairs, followed, pair) {
             return true;

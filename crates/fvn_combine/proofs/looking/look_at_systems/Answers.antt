@@ -17,6 +17,16 @@ look_at_refused-requires c = record {
   refused = subst (IsOpenFault c.args.reading.sums) c.in-Err-Basis.field-0-is c.in-Err-Basis.ensures.refused;
 }
 
+pub look_at_passed-requires : goal.look_at_passed-requires
+look_at_passed-requires c = record {
+  near = c.requires.near;
+  kinds = c.requires.kinds;
+  reading = c.requires.reading;
+  heads = c.requires.heads;
+  sorted = c.requires.sorted;
+  refused = subst (IsOpenFault c.args.reading.sums) c.in-Err-Basis.field-0-is c.in-Err-Basis.ensures.refused;
+}
+
 pub bases-requires : goal.bases-requires
 bases-requires c = subst (λ (k : Combining). IsReading k.declarations k.table (class_of c.args.state.now) c.args.reading) (sym c.task.view_is) c.requires.reading
 
