@@ -26,8 +26,8 @@ met-requires c =
           (sym c.is_same.ensures ∙ c.if-is_same.true);
     }
 
-pub is_same-2-requires : goal.is_same-2-requires
-is_same-2-requires c =
+pub is_same-requires-in-Some : goal.is_same-requires-in-Some
+is_same-requires-in-Some c =
     let w = c.requires.closed.whole in
     let n = c.requires.inside in
     let p = (split_within c.args.sig.now c.args.table.now c.args.state.now c.requires.closed c.recall_well_made.ensures c.args.f (class_of c.args.state.now c.args.i) c.in-Some.p c.in-Some.ensures).1 in
@@ -44,5 +44,5 @@ met-requires-then-is_same-2 c =
       left = c.requires.within;
       right = (split_within d t s c.requires.closed made c.args.f (class_of s c.args.i) c.in-Some.p c.in-Some.ensures).0;
       equal = second_idle d t made c.requires.sums s c.requires.closed c.args.f (unit_associates d t c.requires.sums c.args.f c.args.n c.requires.unit) c.args.i c.requires.within c.in-Some.p c.in-Some.ensures c.args.sorted c.args.n c.requires.unit
-          (sym c.is_same-2.ensures ∙ c.if-is_same-2.true);
+          (sym c.is_same-in-Some.ensures ∙ c.if-is_same-2.true);
     }

@@ -11,5 +11,5 @@ returns-in_ok-push-in-Together c =
     let s = c.args.state.now in
     let P : ℕ × ℕ → Type 0 = IsEqualPair d t s c.args.sorted in
     let must = subst (IsInferred d t s c.args.sorted) c.in-Together.is c.requires.told in
-    subst (AreEqualPairs d t s c.args.sorted) (sym c.in_ok-push.ensures.items)
+    subst (AreEqualPairs d t s c.args.sorted) (sym c.in_ok-push-in-Together.ensures.items)
     (All-push P c.args.equal.now.items _ c.requires.equal (must.open_pair.left, must.open_pair.right, must.equal))
