@@ -21,7 +21,7 @@ use Rattle.fvn_combine_systems.specs.NodeSystems.{IsNodeSystem}
 use Rattle.fvn_combine_systems.specs.Laws.{CountsSolve}
 use Rattle.fvn_combine_systems.specs.Values.{Counts}
 use Rattle.fvn_combine_supports.specs.Laws.{MinimalHasColumn}
-use Rattle.fvn_combine_leaves.specs.Leaves.{Uses, IsLive, IsNotedOther, IsOneSummand, IsNearLeaf, IsUnfilled}
+use Rattle.fvn_combine_leaves.specs.Leaves.{Uses, IsLive, IsNotedOther, IsOneSummand, IsNearLeaf}
 use Rattle.fvn_combine_choices.specs.Tables.{HasSums}
 use Rattle.fvn_combine_complete.specs.Laws.{UnfilledHasNoValues}
 use Rattle.fvn_combine_complete.specs.Obeying.{GoWith, IsSumOf, IsLabel, ObeyHeads}
