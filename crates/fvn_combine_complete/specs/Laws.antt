@@ -23,7 +23,7 @@ use Rattle.fvn_combine_nodes.specs.declared.state.State.{State}
 use Rattle.fvn_combine_systems.specs.NodeSystems.{IsNodeSystem}
 use Rattle.fvn_combine_systems.specs.Values.{Counts}
 use Rattle.fvn_combine_supports.specs.Pieces.{has_some, number_of, AreMadeUp, Meets, StandAlone}
-use Rattle.fvn_combine_leaves.specs.Leaves.{IsLeaf, IsSumOperator}
+use Rattle.fvn_combine_leaves.specs.Leaves.{IsLeaf, IsNearLeaf, IsSumOperator, IsUnfilled}
 use Rattle.fvn_combine_leaves.specs.Readings.{IsReading}
 use Rattle.fvn_combine_leaves.specs.declared.reading.Reading.{Reading}
 use Rattle.fvn_combine_choices.specs.Binding.{AreAsked}
@@ -122,6 +122,14 @@ ValuesObeyChoices =
     (d : Declarations) → IsGood d → (t : NodeTable) → IsWellMade t → HasSums d t → (s : State) (heads : List (Option OpId)) → IsLeaf d t heads s → IsTold d t (class_of s)
     → (y : Systems) → AreSystems d t (class_of s) y → ListsAlive d t s y → (values : ℕ → FlatTerm) → GoWith d t s values → ObeyHeads d t s heads values
     → (c : Choice) × IsPossible d t (class_of s) y c × IsFull d t (class_of s) y c × AreObeying d t (class_of s) y c values × TagsFollow d t (class_of s) c.tag values heads
+
+-- where values go with a state, and obey these heads, each used class that has a summand for sure is in a minimal solution that is live:
+-- where one is in none, no values go with the state
+abbrev pub UnfilledHasNoValues : Type 0
+UnfilledHasNoValues =
+    (d : Declarations) (t : NodeTable) → IsWellMade t → HasSums d t → (s : State) (heads : List (Option OpId)) → IsNearLeaf d t s
+    → (f : OpId) (k : ℕ) → IsUnfilled d t heads s f k
+    → (values : ℕ → FlatTerm) → GoWith d t s values → ObeyHeads d t s heads values → ⊥
 
 -- where values obey a choice, a class needs only classes of a lower rank
 abbrev pub ObeyedChoicesFall : Type 0

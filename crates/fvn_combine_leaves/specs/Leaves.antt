@@ -1,5 +1,5 @@
 -- Leaves: states in which nothing is open that decides what classes are bound to.
-use Rattle.std.specs.Prelude.{◌≡◌, ◌≢◌, ◌⊎◌, ℕ, ◌<◌, pos, List, [], ◌∷◌, length, slice_get, slice_index_or, Option, Some, None, Contains}
+use Rattle.std.specs.Prelude.{◌≡◌, ◌≢◌, ◌⊎◌, ℕ, ◌<◌, ◌≤◌, pos, List, [], ◌∷◌, length, slice_get, slice_index_or, Option, Some, None, Contains}
 use Rattle.fvn_terms.specs.declared.plain.OpId.{OpId}
 use Rattle.fvn_terms.specs.declared.declarations.Declarations.{Declarations}
 use Rattle.fvn_terms.specs.Signature.{axioms}
@@ -113,12 +113,25 @@ module _ (d : Declarations) (t : NodeTable) where
   abbrev pub IsOneSummand : List (Option OpId) → (ℕ → ℕ) → OpId → ℕ → Type 0
   IsOneSummand heads class f k = IsSingle class f k ⊎ IsNotedOther heads class f k
 
-  -- a solution for f, one part a column, may stand for a summand: of no two classes that are single summands, and that it has, is it told that they differ
-  abbrev pub IsLive : List (Option OpId) → State → OpId → (columns solution : List ℕ) → Type 0
-  IsLive heads s f columns solution = (k l : ℕ) → k ≢ l → IsOneSummand heads (class_of s) f k → IsOneSummand heads (class_of s) f l
-      → 0 < component columns solution k → 0 < component columns solution l → AreTold s k l → ⊥
+  -- a solution for f, one part a column, may stand for a summand: it adds no class that is a single summand several times, and of no two such
+  -- classes that it has is it told that they differ
+  pub record IsLive (heads : List (Option OpId)) (s : State) (f : OpId) (columns solution : List ℕ) : Type 0 where
+    pub once : (k : ℕ) → IsOneSummand heads (class_of s) f k → component columns solution k ≤ 1
+    pub told : (k l : ℕ) → k ≢ l → IsOneSummand heads (class_of s) f k → IsOneSummand heads (class_of s) f l
+        → 0 < component columns solution k → 0 < component columns solution l → AreTold s k l → ⊥
 
-  -- the same of those that are single summands by their heads alone: so it may stand for a summand, whatever is noted
+  -- f uses class k, which has a summand for sure, and no minimal solution of f's sum system that is live has it: no values go with the state
+  pub record IsUnfilled (heads : List (Option OpId)) (s : State) (f : OpId) (k : ℕ) : Type 0 where
+    pub operator : IsSumOperator f
+    pub used : Uses (class_of s) f k
+    pub summand : IsOneSummand heads (class_of s) f k ⊎ HasNoIdentity (axioms d f)
+    pub columns : List ℕ
+    pub system : System
+    pub is : IsNodeSystem t (class_of s) f columns system
+    pub none : (v : List ℕ) → IsMinimal system.columns (rows_of system) v → IsLive heads s f columns v → component columns v k ≡ 0
+
+  -- of no two classes that are single summands by their heads alone, and that it has, is it told that they differ: so it may stand for a summand,
+  -- whatever is noted
   abbrev pub IsAlive : State → OpId → (columns solution : List ℕ) → Type 0
   IsAlive s f columns solution = (k l : ℕ) → k ≢ l → IsSingle (class_of s) f k → IsSingle (class_of s) f l
       → 0 < component columns solution k → 0 < component columns solution l → AreTold s k l → ⊥
