@@ -38,7 +38,7 @@ module _ (d : Declarations) (t : NodeTable) (made : IsWellMade t) (s : State) (c
 
     summand_from : HasSummandIn d r e (IsNotedIn d heads) node → IsOneSummand d t heads (class_of s) e.operator node ⊎ HasNoIdentity (axioms d e.operator)
     summand_from (inl one) = inl (summand_of d t made s closed r reading heads e listed node (node_at d t made s closed r reading i e at h.column h.within) h.needed.used one)
-    summand_from (inr no) = inr no
+    summand_from (inr none) = inr none
 
     -- a minimal solution that has the class, and may stand for a summand, is among those that are found
     lacks : (v : List ℕ) → IsMinimal e.system.columns (rows_of e.system) v → IsLive d t heads s e.operator e.columns v → component e.columns v node ≡ 0
