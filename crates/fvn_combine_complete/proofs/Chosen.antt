@@ -299,6 +299,7 @@ module _ (d : Declarations) (t : NodeTable) (made : IsWellMade t) (has : HasSums
         let m = together.among in
         let is : get_or (taken y c f) m.0 [] ≡ together.solution = get_or_default (taken y c f) m.0 [] together.solution m.1 ∙ m.2 in
         let alike = alike_taken m.0 together.solution m.1 is in
+        let once : (j : ℕ) → IsConstant d t class c.tag f j → component (y.columns f) together.solution j ≤ 1 = (λ j h. let much = one_of_sum (λ v. component (y.columns f) v j) (taken y c f) together.solution together.among in let n = constant_counted j h in omega (arith, much, n)) in
         let r = from m.0 m.1 in
         let v_is : get_or (y.basis f) r.place [] ≡ together.solution = sym (solution_from m.0 m.1) ∙ is in
         let minimal = minimal_in together.solution (subst (Contains (y.basis f)) v_is (Contains-get_or (y.basis f) r.place [] r.within)) in
@@ -306,7 +307,7 @@ module _ (d : Declarations) (t : NodeTable) (made : IsWellMade t) (has : HasSums
         (leaf.constants f k l (may_be d t class told c.tag f k hk) (may_be d t class told c.tag f l hl)
         (constant_not_noted d t made has s leaf told values go_with c.tag obey obey_heads follow f k hk) (constant_not_noted d t made has s leaf told values go_with c.tag obey obey_heads follow f l hl)
         (record { columns = y.columns f; system = y.system f; is = is_node_system; solution = together.solution; minimal = minimal; left = together.left; right = together.right })
-        (alike_live d t made has s leaf told values go_with c.tag obey follow f (y.columns f) together.solution alike))
+        (alike_live d t made has s leaf told values go_with c.tag obey follow f (y.columns f) together.solution once alike))
         (alike k l hk hl together.left together.right))
   ]
 

@@ -1,6 +1,8 @@
 -- Values that operators build: constants, and single summands.
 use Rattle.std.proofs.Common.{◌≡◌, true, false, List, [], ◌∷◌, refl, sym, ap, ◌∙◌, subst, Option, Some, None}
 use Rattle.std.specs.Prelude.{Bool, if◌then◌else◌}
+use Rattle.std.proofs.lemmas.Bool.{true≢false}
+use Rattle.fvn_base.proofs.Options.{Some-injective}
 use Rattle.fvn_terms.specs.declared.plain.OpId.{OpId}
 use Rattle.fvn_terms.specs.declared.declarations.Axioms.{Axioms}
 use Rattle.fvn_terms.specs.declared.declarations.Axioms.TheVariants.{Free, Comm, AssocComm, AssocCommId}
@@ -12,12 +14,27 @@ use Rattle.fvn_forms.specs.InOrder.{sort}
 use Rattle.fvn_forms.specs.Canon.{same_op, is_identity, parts, joined, build}
 use Rattle.fvn_forms.proofs.Sums.{funpack-fpack, same_op_is}
 use Rattle.fvn_forms.proofs.Build.{sort_is_nil}
+use Rattle.fvn_flat.specs.Forms.{head_of}
 use Rattle.fvn_combine_nodes.proofs.Heading.{build_free, build_commutative}
 use Rattle.fvn_combine_complete.specs.Obeying.{IsSumOf}
 
 abbrev under : FlatTerm → FlatTerms
 under (fvar x) = fnone
 under (fapp f joined ts) = ts
+
+-- a form has one head alone, and no sum is a constant
+pub sum_is_constant : (f e : OpId) (v : FlatTerm) → IsSumOf f v → v ≡ fconstant e → ⊥
+sum_is_constant f e v sum is = let p = ap joins (sym sum.1 ∙ is) in true≢false p
+  where
+    joins : FlatTerm → Bool
+    joins (fvar x) = false
+    joins (fapp g b ts) = b
+
+pub one_head : (f g : OpId) (v : FlatTerm) → IsSumOf f v → IsSumOf g v → f ≡ g
+one_head f g v a b = let e : Some f ≡ Some g = ap head_of (sym a.1 ∙ b.1) in Some-injective e
+
+pub one_constant : (e o : OpId) (v : FlatTerm) → v ≡ fconstant e → v ≡ fconstant o → e ≡ o
+one_constant e o v a b = let p : Some e ≡ Some o = ap head_of (sym a ∙ b) in Some-injective p
 
 module _ (d : Declarations) (f : OpId) where
   -- an operator that is not associative builds its constant over nothing alone

@@ -12,7 +12,7 @@ use Rattle.fvn_forms.specs.Flat.{FlatTerm, fconstant}
 use Rattle.fvn_forms.specs.Canon.{same_op}
 use Rattle.fvn_forms.proofs.Sums.{same_op_is, same_op_itself}
 use Rattle.fvn_combine_nodes.specs.Table.{NodeTable, IsWellMade, IsOver}
-use Rattle.fvn_combine_nodes.specs.States.{IsOpen, class_of}
+use Rattle.fvn_combine_nodes.specs.States.{IsClosed, IsOpen, class_of}
 use Rattle.fvn_combine_nodes.specs.declared.state.State.{State}
 use Rattle.fvn_combine_nodes.specs.declared.table.Node.TheVariants.{App}
 use Rattle.fvn_combine_nodes.proofs.Admitting.{decided, named_within}
@@ -55,16 +55,16 @@ pub record IsName (t : NodeTable) (class : ℕ → ℕ) (k : ℕ) : Type 0 where
   pub own : class k ≡ k
   pub within : k < length t.nodes
 
-module _ (d : Declarations) (t : NodeTable) (made : IsWellMade t) (s : State) {heads : List (Option OpId)} (leaf : IsLeaf d t heads s) where
+module _ (d : Declarations) (t : NodeTable) (made : IsWellMade t) (s : State) (closed : IsClosed d t s) where
   pub own_name : (f : OpId) (k : ℕ) → IsNodeColumn t (class_of s) f k → IsName t (class_of s) k
   own_name f k h = let n = column_of_node made.ordered f k h in at n.0 n.1.0 n.1.1
     where
       at : (i : ℕ) → i < length t.nodes → class_of s i ≡ k → IsName t (class_of s) k
       at i l e =
-          let w = leaf.closed.whole in
+          let w = closed.whole in
           let m : i < length s.names = omega (arith, l, w) in
-          let n = named_within s leaf.closed.naming i m in
-          record { own = ap (class_of s) (sym e) ∙ (leaf.closed.naming.named i m).1 ∙ e; within = omega (arith, n, w, e) }
+          let n = named_within s closed.naming i m in
+          record { own = ap (class_of s) (sym e) ∙ (closed.naming.named i m).1 ∙ e; within = omega (arith, n, w, e) }
 
 module _ (d : Declarations) (t : NodeTable) (s : State) (values : ℕ → FlatTerm) (go_with : GoWith d t s values) where
   -- the class of a node is that of the value
@@ -86,7 +86,7 @@ module _ (d : Declarations) (t : NodeTable) (made : IsWellMade t) (has : HasSums
   no_twin_identity f k shared used twin e i is =
       let unit = unit_at d t has class f k used e i in
       let value : values (class unit.pair.1) ≡ fconstant e = go_with.are.built unit.pair.1 e [] unit.over in
-      elim (same_class d t s values go_with k unit.pair.1 (own_name d t made s leaf f k used.column) (slice_get_within t.nodes unit.pair.1 (App e []) unit.over)) [
+      elim (same_class d t s values go_with k unit.pair.1 (own_name d t made s leaf.closed f k used.column) (slice_get_within t.nodes unit.pair.1 (App e []) unit.over)) [
         | inl o ↦ leaf.identities f k shared used twin unit.pair unit.listed unit.of o
         | inr r ↦ elim r [
           | inl q ↦ unit.apart q

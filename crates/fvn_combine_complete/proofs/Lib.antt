@@ -5,6 +5,7 @@ mod Singles
 mod Values
 mod Meeting
 mod Below
+mod Filling
 mod Supporting
 mod Telling
 mod Tagging

@@ -123,7 +123,7 @@ module _ {d : Declarations} {problem : Problem} {t : NodeTable} {s : State} {y :
 
   -- a class that is used is a node's name
   pub column_within : (f : OpId) (k : ℕ) → Uses d t class f k → k < length t.nodes
-  column_within f k uses = (own_name d t g.made s g.leaf f k uses.column).within
+  column_within f k uses = (own_name d t g.made s g.leaf.closed f k uses.column).within
 
   -- names of classes
   pub name_kinded : (k : ℕ) → k < length t.nodes → IsSort d (plan.name k).sort × (kind d (plan.name k).sort ≡ (plan.name k).sort)

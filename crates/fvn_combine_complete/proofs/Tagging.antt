@@ -1,7 +1,7 @@
 -- Tags that values obey, and the values of unifiers.
 use Rattle.std.proofs.Common.{◌≡◌, ◌≢◌, ◌⊎◌, ℕ, ◌<◌, true, false, List, length, get_or, refl, sym, ap, ◌∙◌, subst, inl, inr, arith, Contains, Option, Some, None}
-use Rattle.std.specs.Prelude.{Bool, ◌↔◌}
-use Rattle.std.proofs.lemmas.Bool.{cases_eq, true≢false}
+use Rattle.std.specs.Prelude.{◌↔◌}
+use Rattle.std.proofs.lemmas.Bool.{cases_eq}
 use Rattle.fvn_base.specs.Decided.{Decided}
 use Rattle.fvn_base.proofs.Decided.{some_or_none}
 use Rattle.fvn_base.proofs.Options.{Some-injective}
@@ -36,23 +36,10 @@ use Rattle.fvn_combine_complete.specs.Obeying.{IsTold, GoWith, IsSumOf, IsSumOrI
 use Rattle.fvn_combine_complete.specs.Laws.{TagsExist}
 use Rattle.fvn_combine_complete.specs.Neutral.{IsNeutral}
 use Rattle.fvn_combine_complete.proofs.Asked.{tag_told, bare_told, user_told, shared_told, IsUserWith, user_with_told}
+use Rattle.fvn_combine_complete.proofs.Heads.{sum_is_constant, one_head, one_constant}
 use Rattle.fvn_combine_complete.proofs.Identities.{operator_told, unit_at, own_name, same_class, one_identity}
 use Rattle.fvn_combine_complete.proofs.Singles.{one_value_alive}
 use Rattle.fvn_combine_complete.proofs.Values.{may_be}
-
--- a form has one head alone, and no sum is a constant
-sum_is_constant : (f e : OpId) (v : FlatTerm) → IsSumOf f v → v ≡ fconstant e → ⊥
-sum_is_constant f e v sum is = let p = ap joins (sym sum.1 ∙ is) in true≢false p
-  where
-    joins : FlatTerm → Bool
-    joins (fvar x) = false
-    joins (fapp g b ts) = b
-
-one_head : (f g : OpId) (v : FlatTerm) → IsSumOf f v → IsSumOf g v → f ≡ g
-one_head f g v a b = let e : Some f ≡ Some g = ap head_of (sym a.1 ∙ b.1) in Some-injective e
-
-one_constant : (e o : OpId) (v : FlatTerm) → v ≡ fconstant e → v ≡ fconstant o → e ≡ o
-one_constant e o v a b = let p : Some e ≡ Some o = ap head_of (sym a ∙ b) in Some-injective p
 
 -- tags of shared classes and operators that use them, which values obey, and which follow what is noted
 pub record RightTags (d : Declarations) (t : NodeTable) (s : State) (heads : List (Option OpId)) (values : ℕ → FlatTerm) : Type 0 where
@@ -278,7 +265,7 @@ module _ (d : Declarations) (t : NodeTable) (made : IsWellMade t) (has : HasSums
   -- a class of which an operator is noted is taken as a sum of it, where its value is none
   module _ (k : ℕ) (f : OpId) (h : IsNoted k f) where
     within : k < length t.nodes
-    within = (own_name d t made s leaf f k h.used.column).within
+    within = (own_name d t made s leaf.closed f k h.used.column).within
 
     no_other : (g : OpId) → g ≢ f → Uses d t class g k → IsSumOrIdentityOf d g (values k) → ⊥
     no_other g n u is = elim (obey_heads k f within h.noted) [
@@ -307,13 +294,13 @@ module _ (d : Declarations) (t : NodeTable) (made : IsWellMade t) (has : HasSums
           let n : l ≢ k = λ e. c.not_bound (subst (IsBound d t class tag f) (sym e) (tagged h.used h.shared (tag_noted k f h))) in
           let other : g ≢ f = λ same. c.not_bound (tagged c.used shared (e ∙ ap Some same)) in
           let noted : IsNotedSum d t heads g l = elim ((follow l g shared (tag_right l g e).1).meant e) [ inl is ↦ absurd (no_sum is) | inr m ↦ m ] in
-          elim (label.room.told l g n other shared noted both (one_value_alive d t made has s leaf values go_with f both.columns both.solution one_value)) [
+          elim (label.room.told l g n other shared noted both (one_value_alive d t made has s leaf.closed values go_with f both.columns both.solution one_value)) [
             | inl two ↦ h.shared.soft two.first two.heads_first
-            | inr closed ↦ elim (same_class d t s values go_with k l (own_name d t made s leaf f k h.used.column) (own_name d t made s leaf f l c.used.column).within) [
+            | inr closed ↦ elim (same_class d t s values go_with k l (own_name d t made s leaf.closed f k h.used.column) (own_name d t made s leaf.closed f l c.used.column).within) [
               | inl o ↦ closed o
               | inr r ↦ elim r [
-                | inl q ↦ n (sym (q ∙ (own_name d t made s leaf f l c.used.column).own))
-                | inr m ↦ m (sym same ∙ sym (ap values (own_name d t made s leaf f l c.used.column).own))
+                | inl q ↦ n (sym (q ∙ (own_name d t made s leaf.closed f l c.used.column).own))
+                | inr m ↦ m (sym same ∙ sym (ap values (own_name d t made s leaf.closed f l c.used.column).own))
               ]
             ]
           ];

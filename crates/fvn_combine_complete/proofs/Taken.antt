@@ -1,5 +1,5 @@
 -- Pieces of solutions, counted and laid out for a class.
-use Rattle.std.proofs.Common.{◌≡◌, ℕ, zero, suc, ◌<◌, List, [], ◌∷◌, length, get_or, sym, ap, subst, inl, inr, arith, Contains, sum_by}
+use Rattle.std.proofs.Common.{◌≡◌, ℕ, zero, suc, ◌+◌, ◌<◌, ◌≤◌, Bool, true, false, List, [], ◌∷◌, length, get_or, sym, ap, subst, inl, inr, arith, Contains, sum_by}
 use Rattle.std.proofs.lemmas.Bool.{cases_Bool}
 use Rattle.fvn_base.proofs.Membership.{contains_here, contains_later, contains_cases, contains_none}
 use Rattle.fvn_forms.specs.Flat.{FlatTerm}
@@ -23,6 +23,19 @@ counted_contained q (p ∷ l) c = elim (contains_cases p l q c) [
   | inl e ↦ (let m = count_itself q l in let f = ap (λ r. count q (r ∷ l)) e in omega (arith, m, f))
   | inr r ↦ (let m = counted_contained q l r in omega (arith, m))
 ]
+
+-- a list with a member has one that is counted
+pub some_counted : (l : List FlatTerm) → 1 ≤ length l → (q : FlatTerm) × (0 < count q l)
+some_counted [] n = absurd (omega (arith, n))
+some_counted (q ∷ qs) n = (q, let m = count_itself q qs in omega (arith, m))
+
+-- in a list of one no form stands twice
+pub count_one : (q p : FlatTerm) → count q (p ∷ []) ≤ 1
+count_one q p = go (same_flat q p)
+  where
+    go : (b : Bool) → one_if b + 0 ≤ 1
+    go true = omega arith
+    go false = omega arith
 
 count_copies_some : (q : FlatTerm) (n : ℕ) (z : List FlatTerm) → 0 < n → Contains z q → 0 < count q (copies n z)
 count_copies_some q zero z h c = absurd (omega (arith, h))

@@ -1,5 +1,5 @@
 -- The values of classes: constants are single summands, and bound classes have summands.
-use Rattle.std.proofs.Common.{◌≡◌, ◌≢◌, ◌⊎◌, ℕ, ◌+◌, ◌<◌, ◌≤◌, List, [], ◌∷◌, length, map, get_or, refl, sym, ap, ◌∙◌, subst, inl, inr, arith, Contains, Option, Some, slice_get}
+use Rattle.std.proofs.Common.{◌≡◌, ◌≢◌, ◌⊎◌, ℕ, ◌+◌, ◌<◌, ◌≤◌, List, [], ◌∷◌, length, get_or, refl, sym, ap, ◌∙◌, subst, inl, inr, arith, Contains, Option, Some, slice_get}
 use Rattle.std.specs.Prelude.{pos, ◌-ℤ◌}
 use Rattle.std.proofs.lemmas.Bool.{cases_eq, eq-eqb, ne_eqb}
 use Rattle.fvn_base.proofs.Membership.{contains_filter}
@@ -18,19 +18,20 @@ use Rattle.fvn_flat.specs.Forms.{head_of}
 use Rattle.fvn_flat.specs.SolvedLists.{component}
 use Rattle.fvn_flat.specs.Partitions.{HasNoIdentity}
 use Rattle.fvn_combine_nodes.specs.Table.{NodeTable, IsWellMade, IsOver}
-use Rattle.fvn_combine_nodes.specs.States.{IsOpen, class_of}
+use Rattle.fvn_combine_nodes.specs.States.{class_of}
 use Rattle.fvn_combine_nodes.specs.declared.state.State.{State}
 use Rattle.fvn_combine_nodes.proofs.Heading.{identity_of, some_part}
 use Rattle.fvn_combine_systems.specs.NodeSystems.{is_headed, addends, stands_in, coefficient}
 use Rattle.fvn_combine_systems.proofs.Members.{over_addends}
 use Rattle.fvn_combine_systems.proofs.Weighing.{balance}
-use Rattle.fvn_combine_leaves.specs.Leaves.{IsSolid, Uses, IsShared, HasTwin, IsSingle, MayBeConstant, HaveTwoHeads, IsLive, IsNotedSum, IsOneSummand, IsLeaf}
+use Rattle.fvn_combine_leaves.specs.Leaves.{IsSolid, Uses, IsShared, HasTwin, IsSingle, MayBeConstant, AreTold, IsLive, IsNotedSum, IsOneSummand, IsLeaf}
 use Rattle.fvn_combine_choices.specs.Binding.{IsBound, solid, alone, tagged, IsConstant, IsRequired}
 use Rattle.fvn_combine_choices.specs.Tables.{HasSums}
 use Rattle.fvn_combine_complete.specs.Obeying.{IsTold, GoWith, IsSumOf, IsSumOrIdentityOf, ObeyHeads, IsTakenAsSum, ObeyTags, TagsFollow}
-use Rattle.fvn_combine_complete.proofs.Heads.{build_constant, single_part}
-use Rattle.fvn_combine_complete.proofs.Identities.{UnitAt, unit_at, IsName, own_name, same_class, no_twin_identity}
-use Rattle.fvn_combine_complete.proofs.Singles.{solid_head}
+use Rattle.fvn_combine_complete.proofs.Heads.{single_part}
+use Rattle.fvn_combine_complete.proofs.Identities.{IsName, own_name, no_twin_identity}
+use Rattle.fvn_combine_complete.proofs.Singles.{solid_head, told_differ, solid_no_identity}
+use Rattle.fvn_combine_complete.proofs.Taken.{some_counted}
 use Rattle.fvn_combine_complete.proofs.TwoSummands.{two_summands}
 
 equal_parts : (m n : ℕ) → pos m -ℤ pos n ≡ pos 0 → m ≡ n
@@ -55,7 +56,7 @@ module _ (d : Declarations) (t : NodeTable) (made : IsWellMade t) (has : HasSums
 
   -- an operator without an identity that heads a member heads the value
   pub head_of_solid : (f : OpId) (k : ℕ) → IsSolid d t class f k → head_of (values k) ≡ Some f
-  head_of_solid = solid_head d t made has s leaf values go_with
+  head_of_solid = solid_head d t made has s leaf.closed values go_with
 
   -- its value is no sum of f, and not f's identity
   constant_other : (f : OpId) (k : ℕ) → IsConstant d t class tag f k → IsShared d t class k → IsSumOrIdentityOf d f (values k) → ⊥
@@ -70,25 +71,8 @@ module _ (d : Declarations) (t : NodeTable) (made : IsWellMade t) (has : HasSums
   constant_no_identity : (f : OpId) (k : ℕ) → IsConstant d t class tag f k → (e : OpId) → identity (axioms d f) ≡ Some e → values k ≡ fconstant e → ⊥
   constant_no_identity f k h e i is = elim (constant_why d t class told tag f k h) [
     | inr shared ↦ constant_other f k h shared (inr (e, i, is))
-    | inl q ↦
-        let same_head : Some q.0 ≡ Some e = sym (head_of_solid q.0 k q.2) ∙ ap head_of is in
-        let g_is : q.0 ≡ e = cc in
-        headed (subst (λ o. IsSolid d t class o k) g_is q.2) (unit_at d t has class f k h.used e i)
+    | inl q ↦ solid_no_identity d t made has s leaf.closed values go_with leaf.partition f k h.used q.0 q.2 e i is
   ]
-    where
-      headed : IsSolid d t class e k → UnitAt d t class f k e → ⊥
-      headed m unit =
-          let plain : IsAssociative (axioms d e) → ⊥ = λ assoc. (let n = (has.pairs unit.pair.1 e [] unit.over assoc).0 in omega (arith, n)) in
-          let nothing = build_constant d e plain (map (λ k. values (class k)) m.arguments) (sym (go_with.are.built m.member e m.arguments m.over) ∙ ap values m.of ∙ is) in
-          let none : m.arguments ≡ [] = map_nothing m.arguments nothing in
-          let same_node : class m.member ≡ class unit.pair.1 =
-          (leaf.partition.nodes m.member unit.pair.1 e e [] [] (subst (IsOver t.nodes m.member e) none m.over) unit.over).congruent refl refl
-          in
-          unit.apart (sym m.of ∙ same_node)
-        where
-          map_nothing : (ks : List ℕ) → map (λ k. values (class k)) ks ≡ [] → ks ≡ []
-          map_nothing [] z = refl
-          map_nothing (x ∷ xs) z = cc
 
   -- a constant is a single summand
   pub constant_alone : (f : OpId) (k : ℕ) → IsConstant d t class tag f k → parts d f (values k) ≡ values k ∷ []
@@ -115,7 +99,7 @@ module _ (d : Declarations) (t : NodeTable) (made : IsWellMade t) (has : HasSums
           h.other (let e : Some h.operator ≡ Some f = sym ((follow k h.operator h.shared h.uses).noted h.noted) ∙ is in cc)
 
   name_of : (f : OpId) (k : ℕ) → IsConstant d t class tag f k → IsName t class k
-  name_of f k h = own_name d t made s leaf f k h.used.column
+  name_of f k h = own_name d t made s leaf.closed f k h.used.column
 
   -- a constant is not noted as a sum
   pub constant_not_noted : ObeyHeads d t s heads values → TagsFollow d t class tag values heads → (f : OpId) (k : ℕ) → IsConstant d t class tag f k → IsNotedSum d t heads f k → ⊥
@@ -128,23 +112,20 @@ module _ (d : Declarations) (t : NodeTable) (made : IsWellMade t) (has : HasSums
   ]
 
   -- two constants that are touched together differ
-  pub constants_differ : (f : OpId) (k l : ℕ) → IsConstant d t class tag f k → IsConstant d t class tag f l → k ≢ l → HaveTwoHeads d t class k l ⊎ (IsOpen s k l → ⊥) → values k ≢ values l
-  constants_differ f k l hk hl n (inl two) e = two.different (let p : Some two.first ≡ Some two.second = sym (head_of_solid two.first k two.heads_first) ∙ ap head_of e ∙ head_of_solid two.second l two.heads_second in cc)
-  constants_differ f k l hk hl n (inr closed_pair) e = elim (same_class d t s values go_with k l (name_of f k hk) (name_of f l hl).within) [
-    | inl o ↦ closed_pair o
-    | inr r ↦ elim r [
-      | inl q ↦ n (q ∙ (name_of f l hl).own)
-      | inr m ↦ m (e ∙ sym (ap values (name_of f l hl).own))
-    ]
-  ]
+  pub constants_differ : (f : OpId) (k l : ℕ) → IsConstant d t class tag f k → IsConstant d t class tag f l → k ≢ l → AreTold d t s k l → values k ≢ values l
+  constants_differ f k l hk hl = told_differ d t made has s leaf.closed values go_with f k l hk.used.column hl.used.column
 
-  -- a solution whose constants all have one value may stand for a summand
-  pub alike_live : TagsFollow d t class tag values heads → (f : OpId) (columns solution : List ℕ) → ((k l : ℕ) → IsConstant d t class tag f k → IsConstant d t class tag f l → 0 < component columns solution k → 0 < component columns solution l → values k ≡ values l)
+  -- a solution that adds each constant once, and whose constants all have one value, may stand for a summand
+  pub alike_live : TagsFollow d t class tag values heads → (f : OpId) (columns solution : List ℕ) → ((k : ℕ) → IsConstant d t class tag f k → component columns solution k ≤ 1)
+      → ((k l : ℕ) → IsConstant d t class tag f k → IsConstant d t class tag f l → 0 < component columns solution k → 0 < component columns solution l → values k ≡ values l)
       → IsLive d t heads s f columns solution
-  alike_live follow f columns solution alike k l n one other left right told_apart =
-      let hk = summand_constant follow f k one in
-      let hl = summand_constant follow f l other in
-      constants_differ f k l hk hl n told_apart (alike k l hk hl left right)
+  alike_live follow f columns solution once alike = record {
+    once = λ k one. once k (summand_constant follow f k one);
+    told = λ k l n one other left right told_apart.
+        let hk = summand_constant follow f k one in
+        let hl = summand_constant follow f l other in
+        constants_differ f k l hk hl n told_apart (alike k l hk hl left right);
+  }
 
   -- what an associative operator without an identity heads is used
   module _ (f : OpId) (k : ℕ) (assoc : IsAssociative (axioms d f)) (h : IsSolid d t class f k) where
@@ -220,7 +201,7 @@ module _ (d : Declarations) (t : NodeTable) (made : IsWellMade t) (has : HasSums
 
   -- a required class has a summand
   pub required_some : (f : OpId) (k : ℕ) → IsRequired d t class tag f k → (q : FlatTerm) × (0 < count q (parts d f (values k)))
-  required_some f k h = some (parts d f (values k)) refl (long h.why h.bound)
+  required_some f k h = some_counted (parts d f (values k)) (long h.why h.bound)
     where
       with_twin : HasTwin d t class f k → IsBound d t class tag f k → 1 ≤ length (parts d f (values k))
       with_twin twin (solid assoc p) = some_part d f p.no_identity (values k) (go_with.are.settled k)
@@ -241,7 +222,3 @@ module _ (d : Declarations) (t : NodeTable) (made : IsWellMade t) (has : HasSums
       long : HasNoIdentity (axioms d f) ⊎ HasTwin d t class f k → IsBound d t class tag f k → 1 ≤ length (parts d f (values k))
       long (inl bare) b = some_part d f bare (values k) (go_with.are.settled k)
       long (inr twin) b = with_twin twin b
-
-      some : (l : List FlatTerm) → parts d f (values k) ≡ l → 1 ≤ length (parts d f (values k)) → (q : FlatTerm) × (0 < count q (parts d f (values k)))
-      some [] e n = absurd (let m = ap length e in omega (arith, m, n))
-      some (q ∷ qs) e n = (q, let m = count_itself q qs in let o = ap (count q) e in omega (arith, m, o))

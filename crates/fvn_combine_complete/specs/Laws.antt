@@ -123,11 +123,11 @@ ValuesObeyChoices =
     → (y : Systems) → AreSystems d t (class_of s) y → ListsAlive d t s y → (values : ℕ → FlatTerm) → GoWith d t s values → ObeyHeads d t s heads values
     → (c : Choice) × IsPossible d t (class_of s) y c × IsFull d t (class_of s) y c × AreObeying d t (class_of s) y c values × TagsFollow d t (class_of s) c.tag values heads
 
--- values that go with a state, and obey these heads, have a summand of each used class that has one for sure in a minimal solution that is live:
--- where there is none, no values go with the state
+-- where values go with a state, and obey these heads, each used class that has a summand for sure is in a minimal solution that is live:
+-- where one is in none, no values go with the state
 abbrev pub UnfilledHasNoValues : Type 0
 UnfilledHasNoValues =
-    (d : Declarations) (t : NodeTable) → IsWellMade t → HasSums d t → (s : State) (heads : List (Option OpId)) → IsNearLeaf d t s → IsTold d t (class_of s)
+    (d : Declarations) (t : NodeTable) → IsWellMade t → HasSums d t → (s : State) (heads : List (Option OpId)) → IsNearLeaf d t s
     → (f : OpId) (k : ℕ) → IsUnfilled d t heads s f k
     → (values : ℕ → FlatTerm) → GoWith d t s values → ObeyHeads d t s heads values → ⊥
 

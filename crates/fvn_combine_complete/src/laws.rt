@@ -12,10 +12,13 @@ ghost use Rattle.fvn_combine_complete.specs.Laws.{
   ObeyedChoicesFall,
   ObeyedChoicesCover,
   LeavesCover,
+  UnfilledHasNoValues,
 };
 
 use fvn_combine_nodes::unifiers_partition;
-use fvn_combine_supports::{counts_are_made_up, made_up_by_taken, pieces_choose};
+use fvn_combine_supports::{
+    counts_are_made_up, made_up_by_taken, minimal_has_column, pieces_choose,
+};
 use fvn_combine_systems::{counts_solve, unifiers_have_values};
 
 /// The counts of values that go with a leaf meet what is asked of the choice for an operator.
@@ -76,6 +79,14 @@ pub fn values_obey_choices()
     values_choose();
     no_aliases();
     made_up_by_taken();
+}
+
+/// Where a class that has a summand for sure is in no minimal solution that is live, no values go with the state.
+pub fn unfilled_has_no_values()
+    ensures { UnfilledHasNoValues }
+{
+    counts_solve();
+    minimal_has_column();
 }
 
 /// Where values obey a choice, a class needs only classes of a lower rank.

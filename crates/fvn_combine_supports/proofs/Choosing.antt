@@ -12,7 +12,7 @@ use Rattle.fvn_forms.specs.InOrder.{one_if, count}
 use Rattle.fvn_forms.proofs.Order.{same_flat_is, same_flat_itself, flat_equal_decided}
 use Rattle.fvn_forms.proofs.InOrder.{count_itself}
 use Rattle.fvn_acunify.specs.ValidChoice.{chosen, column_sum, touched, IsValid}
-use Rattle.fvn_combine_supports.specs.Pieces.{has_some, number_of, taken, AreMadeUp, AreAlike, Meets, StandAlone}
+use Rattle.fvn_combine_supports.specs.Pieces.{has_some, number_of, taken, AreMadeUp, AreAlike, HasOnce, Meets, StandAlone}
 use Rattle.fvn_combine_supports.proofs.Combining.{Sized, weight, get_or-combination}
 use Rattle.fvn_combine_supports.proofs.Picking.{within, chosen_is}
 
@@ -200,10 +200,20 @@ module _ (columns : ℕ) (basis : List (List ℕ)) (sized : Sized columns basis)
           let both : alone c ∷ [] ≡ alone e ∷ [] = sym a ∙ b in
           cc
 
+      once : HasOnce constants v
+      once c m = elim (cases_lt 0 (get_or v c 0)) [
+        | inr none ↦ omega (arith, none)
+        | inl some ↦
+            let r = taken_from pieces basis v h in
+            let one = (single_of r.0 c r.1 m r.3 (subst (λ u. 0 < get_or u c 0) (sym r.2) some)).0 in
+            let same = ap (λ u. get_or u c 0) r.2 in
+            omega (arith, one, same)
+      ]
+
       apart : (c e : ℕ) → Contains constants c → Contains constants e → c ≢ e → nat_lt 0 (get_or v c 0) ≡ true → nat_lt 0 (get_or v e 0) ≡ true → ⊥
       apart c e m n o p q =
           let r = taken_from pieces basis v h in
-          meets.different c e m n o v (subst (Contains basis) r.2 (Contains-get_or basis r.0 [] r.1)) (ltb-true 0 (get_or v c 0) p) (ltb-true 0 (get_or v e 0) q) alike
+          meets.different c e m n o v (subst (Contains basis) r.2 (Contains-get_or basis r.0 [] r.1)) (ltb-true 0 (get_or v c 0) p) (ltb-true 0 (get_or v e 0) q) alike once
 
   pub chooses : IsValid constants may_be_zero basis (number_of pieces) × StandAlone constants basis pieces alone
   chooses =

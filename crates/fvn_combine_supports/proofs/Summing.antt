@@ -1,4 +1,4 @@
--- A solution is a sum of the minimal ones at or below it, each taken so many times.
+-- A solution is a sum of the minimal ones at or below it, each taken so many times, and one of these has each column that it has.
 use Rattle.std.proofs.Common.{◌≡◌, ℕ, zero, suc, ◌+◌, ◌-◌, ◌*◌, ◌<◌, ◌≤◌, ◌⊎◌, List, [], ◌∷◌, length, map, replicate, get_or, sum, refl, sym, ap, ◌∙◌, subst, inl, inr, arith, Contains}
 use Rattle.std.specs.Prelude.{ℤ}
 use Rattle.std.proofs.lemmas.Bool.{cases_lt}
@@ -8,6 +8,7 @@ use Rattle.std.proofs.lemmas.List.Elements.{All-head, All-tail, All-weaker, All-
 use Rattle.fvn_lindio.specs.Vectors.{IsAtOrBelow, add}
 use Rattle.fvn_lindio.specs.Systems.{Solves, IsMinimal}
 use Rattle.fvn_lindio.specs.Laws.{combination, MinimalBelow}
+use Rattle.fvn_combine_supports.specs.Laws.{MinimalHasColumn}
 use Rattle.fvn_combine_supports.proofs.Combining.{Sized, get_or-add, up-add, down-add, length-combination, combination-nothing}
 
 zeroes_from_sum : (x : List ℕ) → sum x ≡ 0 → replicate (length x) 0 ≡ x
@@ -96,17 +97,7 @@ combination-bump columns (n ∷ times) (v ∷ list) (suc k) d h e l =
     let w : columns ≡ length (get_or list k d) = sym (s k d b) in
     ap (λ c. add (map (λ a. n * a) v) c) r ∙ add_swap (map (λ a. n * a) v) (get_or list k d) (combination columns times list) (z ∙ w)
 
-module _ (below : MinimalBelow) (columns : ℕ) (rows : List (List ℤ)) (list : List (List ℕ)) (minimal : (v : List ℕ) → Contains list v → IsMinimal columns rows v) where
-  abbrev Sum : List ℕ → Type 0
-  Sum x = (times : List ℕ) × (length times ≡ length list) × (combination columns times list ≡ x)
-
-  -- the minimal solutions at or below x are listed
-  abbrev AreListed : List ℕ → Type 0
-  AreListed x = (v : List ℕ) → IsMinimal columns rows v → IsAtOrBelow v x → Contains list v
-
-  sized : Sized columns list
-  sized = All-weaker (Contains list) (λ v. length v ≡ columns) (λ v c. (minimal v c).solves.sized) list (All-contains_itself list)
-
+module _ (columns : ℕ) (rows : List (List ℤ)) where
   -- what is left of a solution without another one solves too
   rest_solves : (m d : List ℕ) → length m ≡ length d → Solves columns rows m → Solves columns rows (add m d) → Solves columns rows d
   rest_solves m d e h k = record {
@@ -124,6 +115,17 @@ module _ (below : MinimalBelow) (columns : ℕ) (rows : List (List ℤ)) (list :
         omega (arith, g, b);
   }
 
+module _ (below : MinimalBelow) (columns : ℕ) (rows : List (List ℤ)) (list : List (List ℕ)) (minimal : (v : List ℕ) → Contains list v → IsMinimal columns rows v) where
+  abbrev Sum : List ℕ → Type 0
+  Sum x = (times : List ℕ) × (length times ≡ length list) × (combination columns times list ≡ x)
+
+  -- the minimal solutions at or below x are listed
+  abbrev AreListed : List ℕ → Type 0
+  AreListed x = (v : List ℕ) → IsMinimal columns rows v → IsAtOrBelow v x → Contains list v
+
+  sized : Sized columns list
+  sized = All-weaker (Contains list) (λ v. length v ≡ columns) (λ v c. (minimal v c).solves.sized) list (All-contains_itself list)
+
   sum_of_none : (x : List ℕ) → length x ≡ columns → sum x ≡ 0 → Sum x
   sum_of_none x e z = (
     replicate (length list) 0,
@@ -135,7 +137,7 @@ module _ (below : MinimalBelow) (columns : ℕ) (rows : List (List ℤ)) (list :
   sum_more m x h listed p under further =
       let d = difference m x under in
       let e : add m d.0 ≡ x = d.2 in
-      let s : Solves columns rows d.0 = rest_solves m d.0 d.1 p.solves (subst (Solves columns rows) (sym e) h) in
+      let s : Solves columns rows d.0 = rest_solves columns rows m d.0 d.1 p.solves (subst (Solves columns rows) (sym e) h) in
       let total : sum m + sum d.0 ≡ sum x = sym (sum-add m d.0 d.1) ∙ ap sum e in
       let some = p.nonzero in
       let r = further d.0 (omega (arith, total, some)) s (λ v q b. listed v q (subst (IsAtOrBelow v) e (below_sum v m d.0 d.1 b))) in
@@ -154,3 +156,41 @@ module _ (below : MinimalBelow) (columns : ℕ) (rows : List (List ℤ)) (list :
 
   pub sum_of_listed : (x : List ℕ) → Solves columns rows x → AreListed x → Sum x
   sum_of_listed x h listed = sum_up_to (sum x) x (omega arith) h listed
+
+at_most_sum : (x : List ℕ) (j : ℕ) → get_or x j 0 ≤ sum x
+at_most_sum [] j = omega arith
+at_most_sum (a ∷ x) zero = let s = sum_by-cons (λ (b : ℕ). b) a x in omega (arith, s)
+at_most_sum (a ∷ x) (suc j) = let s = sum_by-cons (λ (b : ℕ). b) a x in let r = at_most_sum x j in omega (arith, s, r)
+
+module _ (below : MinimalBelow) (columns : ℕ) (rows : List (List ℤ)) (j : ℕ) where
+  -- a minimal solution at or below x that has column j
+  abbrev HasMinimal : List ℕ → Type 0
+  HasMinimal x = (v : List ℕ) × IsMinimal columns rows v × IsAtOrBelow v x × (0 < get_or v j 0)
+
+  -- where a minimal solution below x does not have the column, what is left of x has it
+  left_has : (m x : List ℕ) → Solves columns rows x → 0 < get_or x j 0 → IsMinimal columns rows m → IsAtOrBelow m x → get_or m j 0 ≤ 0 → ((y : List ℕ) → sum y < sum x → Solves columns rows y → 0 < get_or y j 0 → HasMinimal y) → HasMinimal x
+  left_has m x h p least under none further =
+      let d = difference m x under in
+      let e : add m d.0 ≡ x = d.2 in
+      let s : Solves columns rows d.0 = rest_solves columns rows m d.0 d.1 least.solves (subst (Solves columns rows) (sym e) h) in
+      let total : sum m + sum d.0 ≡ sum x = sym (sum-add m d.0 d.1) ∙ ap sum e in
+      let some = least.nonzero in
+      let at = get_or-add m d.0 d.1 j in
+      let same = ap (λ y. get_or y j 0) e in
+      let r = further d.0 (omega (arith, total, some)) s (omega (arith, at, same, p, none)) in
+      (r.0, r.1, subst (IsAtOrBelow r.0) e (below_sum r.0 m d.0 d.1 r.2), r.3)
+
+  has_minimal : (n : ℕ) (x : List ℕ) → sum x ≤ n → Solves columns rows x → 0 < get_or x j 0 → HasMinimal x
+  has_minimal zero x b h p = absurd (let a = at_most_sum x j in omega (arith, a, b, p))
+  has_minimal (suc n) x b h p = go (has_minimal n)
+    where
+      go : ((y : List ℕ) → sum y ≤ n → Solves columns rows y → 0 < get_or y j 0 → HasMinimal y) → HasMinimal x
+      go further =
+          let m = below columns rows x h (let a = at_most_sum x j in omega (arith, a, p)) in
+          elim (cases_lt 0 (get_or m.0 j 0)) [
+            | inl some ↦ (m.0, m.1, m.2, some)
+            | inr none ↦ left_has m.0 x h p m.1 m.2 none (λ y l s q. further y (omega (arith, l, b)) s q)
+          ]
+
+pub minimal_has_column : MinimalBelow → MinimalHasColumn
+minimal_has_column below columns rows x h j p = has_minimal below columns rows j (sum x) x (omega arith) h p

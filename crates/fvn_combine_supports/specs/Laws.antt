@@ -1,5 +1,5 @@
 -- Laws of supports.
-use Rattle.std.specs.Prelude.{◌≡◌, ℕ, ℤ, Bool, List, length, replicate, All, Contains}
+use Rattle.std.specs.Prelude.{◌≡◌, ℕ, ◌<◌, ℤ, Bool, List, length, replicate, slice_index, All, Contains}
 use Rattle.fvn_forms.specs.Flat.{FlatTerm}
 use Rattle.fvn_lindio.specs.Vectors.{IsAtOrBelow}
 use Rattle.fvn_lindio.specs.Systems.{Solves, IsMinimal}
@@ -36,3 +36,9 @@ MadeUpByTaken =
 abbrev pub CombinationsSolve : Type 0
 CombinationsSolve =
     (columns : ℕ) (rows : List (List ℤ)) (times : List ℕ) (list : List (List ℕ)) → All (Solves columns rows) list → Solves columns rows (combination columns times list)
+
+-- at or below a solution that has a column stands a minimal one that has it
+abbrev pub MinimalHasColumn : Type 0
+MinimalHasColumn =
+    (columns : ℕ) (rows : List (List ℤ)) (x : List ℕ) → Solves columns rows x → (j : ℕ) → 0 < slice_index x j
+    → (v : List ℕ) × IsMinimal columns rows v × IsAtOrBelow v x × (0 < slice_index v j)

@@ -1,5 +1,5 @@
 -- Counts that are made up of pieces: flat forms that stand for solutions of a sum system.
-use Rattle.std.specs.Prelude.{◌≡◌, ◌≢◌, ℕ, ◌+◌, ◌*◌, ◌<◌, Bool, true, false, if◌then◌else◌, List, [], ◌∷◌, length, map, slice_index, slice_index_or, AllPairs, Contains}
+use Rattle.std.specs.Prelude.{◌≡◌, ◌≢◌, ℕ, ◌+◌, ◌*◌, ◌<◌, ◌≤◌, Bool, true, false, if◌then◌else◌, List, [], ◌∷◌, length, map, slice_index, slice_index_or, AllPairs, Contains}
 use Rattle.fvn_forms.specs.Flat.{FlatTerm}
 use Rattle.fvn_forms.specs.Order.{same_flat}
 use Rattle.fvn_forms.specs.InOrder.{one_if, count}
@@ -35,13 +35,18 @@ pub record AreMadeUp (columns : ℕ) (basis : List (List ℕ)) (counted : FlatTe
 abbrev pub AreAlike : (constants vector : List ℕ) → (ℕ → FlatTerm) → Type 0
 AreAlike constants v alone = (c e : ℕ) → Contains constants c → Contains constants e → 0 < slice_index v c → 0 < slice_index v e → alone c ≡ alone e
 
+-- the vector has no constant column several times
+abbrev pub HasOnce : (constants vector : List ℕ) → Type 0
+HasOnce constants v = (c : ℕ) → Contains constants c → slice_index v c ≤ 1
+
 -- what is counted meets what is asked of a choice
 pub record Meets (constants : List ℕ) (may_be_zero : List Bool) (basis : List (List ℕ)) (counted : FlatTerm → List ℕ) (alone : ℕ → FlatTerm) : Type 0 where
   pub distinct : AllPairs ◌≢◌ constants
   -- in a constant column one flat form is counted, once
   pub once : (c : ℕ) → Contains constants c → (q : FlatTerm) → slice_index (counted q) c ≡ one_if (same_flat q (alone c))
-  -- those of all constant columns that a vector has are one only where it has one such column
-  pub different : (c e : ℕ) → Contains constants c → Contains constants e → c ≢ e → (v : List ℕ) → Contains basis v → 0 < slice_index v c → 0 < slice_index v e → AreAlike constants v alone → ⊥
+  -- those of all constant columns that a vector has, each once, are one only where it has one such column
+  pub different : (c e : ℕ) → Contains constants c → Contains constants e → c ≢ e → (v : List ℕ) → Contains basis v → 0 < slice_index v c → 0 < slice_index v e
+      → AreAlike constants v alone → HasOnce constants v → ⊥
   -- in a column that may not be zero something is counted
   pub filled : (j : ℕ) → slice_index_or may_be_zero j true ≡ false → (q : FlatTerm) × (0 < slice_index (counted q) j)
 

@@ -4,6 +4,7 @@ ghost use Rattle.fvn_combine_supports.specs.Laws.{
   PiecesChoose,
   MadeUpByTaken,
   CombinationsSolve,
+  MinimalHasColumn,
 };
 
 use fvn_lindio::minimal_below;
@@ -29,3 +30,10 @@ pub fn made_up_by_taken()
 pub fn combinations_solve()
     ensures { CombinationsSolve }
 {}
+
+/// At or below a solution that has a column stands a minimal one that has it.
+pub fn minimal_has_column()
+    ensures { MinimalHasColumn }
+{
+    minimal_below();
+}

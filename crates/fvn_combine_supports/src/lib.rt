@@ -3,4 +3,6 @@
 
 mod laws;
 
-pub use laws::{combinations_solve, counts_are_made_up, made_up_by_taken, pieces_choose};
+pub use laws::{
+    combinations_solve, counts_are_made_up, made_up_by_taken, minimal_has_column, pieces_choose,
+};
