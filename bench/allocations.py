@@ -80,10 +80,31 @@ ENC = ("fmod ENC is sorts Msg Key . op a : -> Msg . op k : -> Key . ops enc dec 
 CHAIN = ("fmod CHAIN is sorts A B C . subsorts A < B < C . op f : C C -> C [assoc comm] . op f : B B -> B [ditto] . "
          "op f : A A -> A [ditto] . vars X Y Z : C . eq f(X,Y,Z) = f(Z,Y,X) [variant] . endfm\n")
 
+AC = "fmod AC is sort S . ops a b : -> S . op g : S -> S . op c : S S -> S [comm] . op _+_ : S S -> S [assoc comm] . vars X Y Z U V : S . endfm\n"
+LOOP = "fmod LOOP is sort S . op a : -> S . op f : S -> S . var X : S . eq f(X) = f(X) [variant] . endfm\n"
+GROW = ("fmod GROW is sort S . op a : -> S . op g : S -> S . op p : S S -> S . var X : S . eq g(X) = g(p(X,X)) [variant] . endfm\n")
+RAISE = "fmod RAISE is sorts A B . subsort A < B . op f : B -> A . op g : B -> B . var X : B . eq f(X) = g(X) [variant] . endfm\n"
+PARTS = ("fmod PARTS is sort S . ops a b : -> S . op f : S S -> S . op _+_ : S S -> S [assoc comm] . "
+         "eq f(_+_(A0:S,A1:S,A2:S,A3:S,A4:S),a) = b [variant] . endfm\n")
+FIVE, OTHERS = "_+_(B0:S,B1:S,B2:S,B3:S,B4:S)", "_+_(C0:S,C1:S,C2:S,C3:S,C4:S)"
+LARGE = "p(V0:S,p(V1:S,p(V2:S,p(V3:S,p(V4:S,p(V5:S,p(V6:S,p(V7:S,V8:S)))))))) =? " + (
+    "p(p(V1:S,V1:S),p(p(V2:S,V2:S),p(p(V3:S,V3:S),p(p(V4:S,V4:S),p(p(V5:S,V5:S),p(p(V6:S,V6:S),p(p(V7:S,V7:S),p(p(V8:S,V8:S),"
+    "p(V9:S,V9:S)))))))))")
+
 ROWS = [
     ("check free", ["check"], FREE),
+    ("check loss of a sort", ["check"], RAISE),
+    ("check left side at fault", ["check"], "fmod M is sort S . op e : -> S . op h : S S -> S [assoc comm id: e] . var X : S . eq h(X,X) = e [variant] . endfm\n"),
     ("check chain of sorts", ["check"], CHAIN),
     ("check refused", ["check"], "fmod M is sort S . op a : S -> . endfm\n"),
+    ("unify two sums of two", ["unify", "_+_(X,Y) =? _+_(U,V)"], AC),
+    ("unify a constant", ["unify", "a =? a"], AC),
+    ("unify commutative", ["unify", "c(X,Y) =? c(a,g(Z))"], AC),
+    ("unify two pairs", ["unify", "X =? g(Y) /\\ c(X,Z) =? c(Z,U)"], AC),
+    ("unify bound basis", ["unify", FIVE + " =? " + OTHERS], AC),
+    ("unify bound size", ["unify", LARGE], FREE),
+    ("unify refused", ["unify", "X =? q"], AC),
+    ("unify refused kinds", ["unify", "a =? k"], ENC),
     ("unify free", ["unify", "p(X,b) =? p(a,Y)"], FREE),
     ("unify ac", ["unify", "_+_(X:S,Y:S) =? _+_(Z:S,g(W:S))"], SUMS),
     ("unify acu with sorts", ["unify", "_;_(X:E,Y:B) =? _;_(a,Z:B)"], BAGS),
@@ -91,12 +112,34 @@ ROWS = [
     ("variants xor", ["variants", "_*_(X:[NatSet],Y:[NatSet])"], XOR),
     ("variants levels", ["variants", "--levels=2", "+(X:Nat,Y:Nat)"], PLUS),
     ("variants workers", ["variants", "--workers=2", "dec(X,Y)"], ENC),
+    ("variants kept", ["variants", "--variants=1", "+(X:Nat,Y:Nat)"], PLUS),
+    ("variants steps", ["variants", "--steps=5", "f(a)"], LOOP),
+    ("variants size", ["variants", "g(a)"], GROW),
+    ("variants basis", ["variants", "f(" + FIVE + ",Y:S)"], PARTS),
+    ("variants cause sorts", ["variants", "f(X)"], RAISE),
+    ("variants refused", ["variants", "dec(X)"], ENC),
     ("vunify enc", ["vunify", "dec(X,k) =? a"], ENC),
+    ("vunify none", ["vunify", "enc(X,k) =? a"], ENC),
+    ("vunify levels", ["vunify", "--levels=2", "+(X:Nat,s(0)) =? s(s(0))"], PLUS),
+    ("vunify kept", ["vunify", "--variants=1", "dec(X,k) =? a"], ENC),
+    ("vunify steps", ["vunify", "--steps=5", "f(a) =? a"], LOOP),
+    ("vunify size", ["vunify", "g(a) =? a"], GROW),
+    ("vunify basis", ["vunify", "f(" + FIVE + ",Y:S) =? b"], PARTS),
+    ("vunify cause sorts", ["vunify", "f(X) =? g(X)"], RAISE),
+    ("vunify refused", ["vunify", "a =? k"], ENC),
     ("vunify xor", ["vunify", "_*_(X:[NatSet],Y:[NatSet]) =? mt"], XOR),
     ("verify", ["verify", "p(X,b) =? p(a,Y)", "{X:S --> a, Y:S --> b}"], FREE),
     ("verify steps", ["verify", "+(s(X),Y) =? Z:Nat", "{X:Nat --> 0, Y:Nat --> 0, Z:Nat --> s(0)}"], PLUS),
+    ("verify no", ["verify", "_+_(X,a) =? b", "{X:S --> b}"], AC),
+    ("verify bound steps", ["verify", "--steps=5", "f(a) =? a", "{}"], LOOP),
+    ("verify bound size", ["verify", "g(a) =? a", "{}"], GROW),
+    ("verify refused", ["verify", "X =? Y", "{X:S --> q}"], AC),
+    ("verify refused sort", ["verify", "E:E =? a", "{E:E --> _;_(a,b)}"], BAGS),
     ("terminates", ["terminates", "+ : 2 1 1 , s : 1 1"], PLUS),
     ("terminates confluence", ["terminates", "enc : 1 1 1 , dec : 1 1 1"], ENC),
+    ("terminates not shown", ["terminates", "+ : 2 1 1 , s : 1 0"], PLUS),
+    ("terminates shape", ["terminates", "_+_ : 2 2 0"], AC),
+    ("terminates refused", ["terminates", "q : 1"], PLUS),
     ("work", ["work", "2"], ""),
     ("usage", ["unify"], FREE),
 ]

@@ -5,7 +5,7 @@ less memory for the whole program.
 Over `./fvn` or the program behind --fvn. Each row is run with 64 MiB, for what it answers, with the usual stack of 8 MiB, with each of
 100 to 1,024 KiB (`ulimit -s`, in steps of --step KiB), and with 2.4 to 8 MB of memory (`ulimit -v`, in steps of --space KB); rows that
 take over half a second with three of each. A run that ends by a signal in place of an answer or of status 8 is told, with what was given
-to it. With --only WORD the rows whose name has the word; a run ends after --seconds.
+to it, and at the end the greatest need of each command. With --only WORD the rows whose name has the word; a run ends after --seconds.
 """
 import argparse
 import collections
@@ -102,6 +102,9 @@ ROWS = {
     "check, sides of 400": row_of(LARGE, "check"),
     "check, a left side of 100,000": row_of("eq %s = a [variant] . " % unary(100_000), "check"),
     "check, 100,000 parentheses": row_of("eq %sg(a)%s = a [variant] . " % ("(" * 100_000, ")" * 100_000), "check"),
+    "check, a module of 1 MiB, a side of 349,000": row_of("eq %s = a [variant] . " % unary(349_000), "check"),
+    "check, a module of 1 MiB, 500,000 parentheses": row_of("eq %sg(a)%s = a [variant] . " % ("(" * 500_000, ")" * 500_000), "check"),
+    "check, 256 equations of 399 symbols": row_of(("eq %s = a [variant] . " % unary(398)) * 256, "check"),
     "check, pairs to the left": row_of("eq %s = a [variant] . " % left(199, "p"), "check"),
     "check, commutative pairs to the right": row_of("eq %s = a [variant] . " % right(199, "k"), "check"),
     "unify, a side of 399": row_of("", "unify", "X:S =? " + unary(398, "Y:S")),
@@ -109,6 +112,14 @@ ROWS = {
     "unify, commutative pairs": row_of("", "unify", "%s =? %s" % (left(99, "k"), right(99, "k"))),
     "unify, a side of 40,000": row_of("", "unify", "X:S =? " + unary(40_000, "Y:S")),
     "unify, 40,000 parentheses": row_of("", "unify", "(" * 40_000 + "X:S" + ")" * 40_000 + " =? a"),
+    "unify, 4,096 unifiers": row_of("ops c1 c2 c3 c4 c5 c6 c7 c8 : -> S . ", "unify", "_+_(X:S,Y:S,Z:S) =? _+_(c1,c2,c3,c4,c5,c6,c7,c8)"),
+    "variants, a term of 40,000": row_of("", "variants", unary(40_000, "Y:S")),
+    "variants, pairs to the left": row_of(EVEN, "variants", left(199, "p")),
+    "vunify, a side of 40,000": row_of("", "vunify", "X:S =? " + unary(40_000, "Y:S")),
+    "verify, a side of 40,000": row_of("", "verify", "X:S =? " + unary(40_000, "Y:S"), "{}"),
+    "verify, a bound term of 40,000": row_of("", "verify", "X:S =? X:S", "{X:S --> %s}" % unary(40_000)),
+    "terminates, 12,000 weights": row_of("", "terminates", " , ".join(["g : 1 1"] * 12_000)),
+    "terminates, pairs to the left": row_of("eq %s = a [variant] . " % left(199, "p"), "terminates", "p : 1 1 1"),
     "variants, a term of 400": row_of(EVEN, "variants", unary(399, "X:S")),
     "variants, 398 steps": row_of(STEPS, "variants", unary(398)),
     "variants, two workers": row_of(EVEN, "variants", "--workers=2", unary(399, "X:S")),
@@ -124,7 +135,10 @@ ROWS = {
         alternating(50, "_+_(g(U:S),V:S)"), other(alternating(50, "_+_(g(a),%s)" % unary(650)))),
     "verify, a left side of 196 sums one within another": sided(DEEP_SUMS, other(DEEP_SUMS)),
     "terminates, sides of 400": row_of(LARGE, "terminates", "g : 1 1"),
+    "verify, 256 equations of 399 symbols": row_of(
+        ("eq %s = a [variant] . " % unary(398)) * 256, "verify", "X:S =? a", "{X:S --> %s}" % unary(999)),
     "work": (["work", "4"], ""),
+    "work, the largest number": (["work", "6"], ""),
     "unify, 21 values of 120 symbols": (["unify", COPIES + " /\\ __(A:E,X:M) =? __(B:E,Z:M)"], BAGS),
     "unify, 21 values of 201 symbols in commutative pairs": nested(right(100, "k", "X:M"), 21),
     "unify, 71 values of 201 symbols in commutative pairs": nested(right(100, "k", "X:M"), 71),
@@ -185,12 +199,12 @@ def sorted_out(fvn, asked, want, limits):
 
 
 def tried(asked, name, row):
-    """The line of a row, and how many of its runs ended by a signal or otherwise."""
+    """The line of a row, how many of its runs ended by a signal or otherwise, and the least stack."""
     begun = time.time()
     want = run(asked.fvn, row, MOST)
     took = time.time() - begun
     if want is None:
-        return "| %s | not ended in %d s | | | |" % (name, asked.seconds), 0
+        return "| %s | not ended in %d s | | | |" % (name, asked.seconds), 0, 0
     usual = run(asked.fvn, row, 8_192)
     fits = usual == want
     dear = took > 0.5
@@ -200,7 +214,7 @@ def tried(asked, name, row):
     in_space, second = sorted_out(asked.fvn, row, want, [(8_192, v) for v in spaces])
     need = least(asked.fvn, row, want, 8_192 if fits else MOST, 64 if dear else 8)
     eight = "" if fits else " (over 8 MiB: status %s)" % (usual and usual[0])
-    return "| %s | %d, %.1f s | %d%s | %s | %s |" % (name, want[0], took, need, eight, in_stack, in_space), first + second + (not fits)
+    return "| %s | %d, %.1f s | %d%s | %s | %s |" % (name, want[0], took, need, eight, in_stack, in_space), first + second + (not fits), need
 
 
 SECONDS = [60]
@@ -216,12 +230,14 @@ def main():
     asked = args.parse_args()
     SECONDS[0] = asked.seconds
     print("| input | status, time | least stack, KiB | stack of 100 to 1,024 KiB | memory of 2.4 to 8 MB |\n|---|---|---|---|---|")
-    bad = 0
+    bad, needs = 0, {}
     for name, row in ROWS.items():
         if asked.only in name:
-            line, more = tried(asked, name, row)
+            line, more, need = tried(asked, name, row)
             bad += more
+            needs[row[0][0]] = max(need, needs.get(row[0][0], 0))
             print(line, flush=True)
+    print("the greatest need: " + ", ".join("%s %d KiB" % it for it in needs.items()))
     print("stack: %d runs by a signal or otherwise" % bad)
     sys.exit(bad > 0)
 

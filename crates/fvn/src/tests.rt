@@ -139,11 +139,14 @@ fn text_of(alloc: Global, lines: &str) -> Result<String, NoMemory> {
     Ok(text)
 }
 
-/// The source of a setting: a read gives 64 bytes at most.
+/// The source of a setting: a read gives 64 bytes at most, and 16 where one is to fail.
 fn source_of(alloc: Global, setting: &Setting) -> Result<MemSource, NoMemory> {
     let bytes = Vec::from_slice(alloc, setting.module)?;
     let reads = Vec::from_slice(alloc, &[setting.failing_read])?;
-    Ok(MemSource::new(bytes, 64, reads))
+    if setting.failing_read == 0 {
+        return Ok(MemSource::new(bytes, 64, reads));
+    }
+    Ok(MemSource::new(bytes, 16, reads))
 }
 
 /// The sink of a setting: a write takes 3 bytes at most.

@@ -36,15 +36,15 @@ fn front_told<R: Abort + Threads + Sync>(
     told(rt, &OpenGate, alloc, setting, number, front)
 }
 
-/// How many reads of 64 bytes are made: the last one finds the end. Over an empty module nothing is read.
+/// How many reads of 16 bytes are made: the last one finds the end. Over an empty module nothing is read.
 fn reads_of(module: &[u8]) -> usize {
     if module.is_empty() {
         return 0;
     }
-    module.len().div_ceil(64).saturating_add(1)
+    module.len().div_ceil(16).saturating_add(1)
 }
 
-/// Of reads of 64 bytes and then of writes of 3 bytes so many do not fail, and then the sink has room for all but so many
+/// Of reads of 16 bytes and then of writes of 3 bytes so many do not fail, and then the sink has room for all but so many
 /// bytes.
 fn faults_told<R: Abort + Threads + Sync>(
     rt: &R,

@@ -175,11 +175,11 @@ verify | a =? a | {} ==> 3 | module 13 equation 1
 terminates | g : 1 1 ==> 3 | module 13 equation 1";
 
 /// Modules, and under each commands with words at a limit and one beyond, and what is printed of these. Parentheses have
-/// no limit. The limits are: symbols of a problem and of a term, 400; of a bound term and of what is made, 1,000; minimal
-/// solutions, 24, and numbers in them over 65,535; choices of a match one within another, 209, as 69 sums have, and as
-/// many summands as a left side may have; steps, levels and variants; bytes of a module. Over the last module one unifier
-/// has terms of 511 symbols and fewer, each twice the next; two have a sum of such terms, of 999 symbols and of 1,001;
-/// one has a term of 1,023; and one binds twenty variables.
+/// no limit. The limits are: symbols of a problem and of a term, 400; of a bound term and of what is made, 1,000, and of a
+/// part of a term together with a left side; minimal solutions, 24, also on the way, and numbers in them over 65,535;
+/// choices of a match one within another, 209, as 69 sums have, and as many summands as a left side may have; steps, levels
+/// and variants; bytes of a module. Over the first module one unifier has terms of 511 symbols and fewer, each twice the
+/// next; two have a sum of such terms, of 999 symbols and of 1,001; one has a term of 1,023; and one binds twenty variables.
 const QUESTIONS: &str = "\
 fmod FREE is
   sort S .
@@ -246,6 +246,19 @@ variants | f(X) ==> 5 | f(#1:S) {X:S --> #1:S} | g(#1:S) {X:S --> p(#1:S,#1:S,#1
 fmod WIDE is sort S . op a : -> S . ops f g h : S -> S . op p : S S S -> S . vars X Y Z : S . eq f(p(X,X,X)) = g(X) [variant] . eq g(~333%h(~a~333%)~) = a [variant] . eq p(h(X),Y,Z) = a [variant] . endfm <=
 variants | f(X) ==> 0 | f(#1:S) {X:S --> #1:S} | g(#1:S) {X:S --> p(#1:S,#1:S,#1:S)} | complete 2
 
+fmod PART is sort S . op a : -> S . ops f g h : S -> S . op p : S S -> S . vars X Y : S . eq f(X) = p(X,X) [variant] . eq p(X,~396%h(~a~396%)~) = a [variant] . endfm <=
+variants | p(f(f(f(~73%g(~a~73%)~))),Y) ==> 0 | 2 lines | complete 2
+vunify | p(f(f(f(~73%g(~a~73%)~))),Y) =? a ==> 0 | {Y:S --> ~396%h(~a~396%)~} | complete 1
+
+fmod PART is sort S . op a : -> S . ops f g h : S -> S . op p : S S -> S . vars X Y : S . eq f(X) = p(X,X) [variant] . eq p(X,~397%h(~a~397%)~) = a [variant] . endfm <=
+variants | p(f(f(f(~73%g(~a~73%)~))),Y) ==> 5 | 1 lines | bound size 1000
+vunify | p(f(f(f(~73%g(~a~73%)~))),Y) =? a ==> 5 | bound size 1000
+
+fmod SUMS is sort S . ops a b : -> S . op f : S S -> S . op _+_ : S S -> S [assoc comm] . vars X Y : S . eq f(_+_(~4%A@:S,~A4:S),a) = b [variant] . endfm <=
+variants | f(_+_(B0:S,B1:S,B2:S,B3:S,B4:S),Y) ==> 5 | f(_+_(#1:S,#2:S,#3:S,#4:S,#5:S),#6:S) {B0:S --> #1:S, B1:S --> #2:S, B2:S --> #3:S, B3:S --> #4:S, B4:S --> #5:S, Y:S --> #6:S} | bound basis _+_
+variants | f(_+_(B0:S,B1:S,B2:S,B3:S,a),Y) ==> 5 | 1 lines | bound basis _+_
+vunify | f(_+_(B0:S,B1:S,B2:S,B3:S,B4:S),Y) =? b ==> 5 | bound basis _+_
+
 fmod WIDEST is sort S . ops a b : -> S . op f : S -> S . op _+_ : S S -> S [assoc comm] . eq f(_+_(~198%X@:S,~X:S)) = a [variant] . endfm <=
 verify | f(Y:S) =? a | {Y:S --> _+_(~199%a,~b)} ==> 0 | yes
 
@@ -279,12 +292,22 @@ unify | p(X,b) =? p(a,Y) ==> 0 | {X:S --> a, Y:S --> b} | complete 1
 fmod FREE is sort S . ops a b : -> S . op p : S S -> S . vars X Y : S . endfm~1048500% ~ <=
 unify | p(X,b) =? p(a,Y) ==> 3 | module 14";
 
-/// The same for the number of unifiers, 4,095 and one more: each of twelve elements is in one of two sets, of which one may
-/// not be empty, or both may.
+/// The same for the number of unifiers, 4,095 and one more, of a problem and of one on the way: each of twelve elements is in
+/// one of two sets, of which one may not be empty, or both may.
 const MANY: &str = "\
 fmod SETS is sorts N S . subsort N < S . ops c ~11%c@ ~: -> N . op mt : -> S . op _;_ : S S -> S [assoc comm id: mt] . op _;_ : N S -> N [ditto] . endfm <=
 unify | _;_(X:N,Y:S) =? _;_(c~11%,c@~) ==> 0 | 4095 lines | complete 4095
-unify | _;_(X:S,Y:S) =? _;_(c~11%,c@~) ==> 5 | 4096 lines | bound unifiers 4096";
+unify | _;_(X:S,Y:S) =? _;_(c~11%,c@~) ==> 5 | 4096 lines | bound unifiers 4096
+vunify | _;_(X:N,Y:S) =? _;_(c~11%,c@~) ==> 0 | 4095 lines | complete 4095
+vunify | _;_(X:S,Y:S) =? _;_(c~11%,c@~) ==> 5 | 4096 lines | bound unifiers 4096
+
+fmod PART is sorts N S . subsort N < S . ops c ~11%c@ ~: -> N . ops mt a b : -> S . op _;_ : S S -> S [assoc comm id: mt] . op _;_ : N S -> N [ditto] . op g : S S -> S . eq g(_;_(X:N,Y:S),a) = b [variant] . endfm <=
+variants | g(_;_(c~11%,c@~),Z:S) ==> 0 | 2 lines | complete 2
+vunify | g(_;_(c~11%,c@~),Z:S) =? b ==> 0 | {Z:S --> a} | complete 1
+
+fmod PART is sorts N S . subsort N < S . ops c ~11%c@ ~: -> N . ops mt a b : -> S . op _;_ : S S -> S [assoc comm id: mt] . op _;_ : N S -> N [ditto] . op g : S S -> S . eq g(_;_(X:S,Y:S),a) = b [variant] . endfm <=
+variants | g(_;_(c~11%,c@~),Z:S) ==> 5 | 2 lines | bound unifiers 4096
+vunify | g(_;_(c~11%,c@~),Z:S) =? b ==> 5 | {Z:S --> a} | bound unifiers 4096";
 
 #[test]
 fn modules_at_a_limit_are_read(rt: HostRuntime) -> Result<(), NoMemory> {

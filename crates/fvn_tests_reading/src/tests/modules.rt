@@ -178,7 +178,9 @@ sort S . op a : -> S . op g : S -> S . eq |399 g(|a|399 )| = q [variant] . => Un
 sort S . op a : -> S . op g : S -> S . eq |400 g(|a|400 )| = q [variant] . => UnknownName(4)
 sort S . op a : -> S . op g : S -> S . eq |100000 g(|a|100000 )| = q [variant] . => UnknownName(4)
 sort S . op a : -> S . op g : S -> S . eq |100000 (|g(a)|100000 )| = a [variant] . => 1 1 2 1
-sorts |64 S% |. ops |256 a% |: |8 S0 |-> S0 . => 64 64 256 0";
+sorts |64 S% |. ops |256 a% |: |8 S0 |-> S0 . => 64 64 256 0
+sorts A B |30 S% |C . subsorts B < |30 S% |< C . |30 op f : A -> S% . |op f : A -> B . => 33 2 1 0
+sorts A |30 S% |C . subsorts |30 S% |< C . |30 op f : A -> S% . | => NotPreregular(OpId(0), Seq { items: [SortId(0)] })";
 
 // Each line has a whole text, and the numbers of what it declares, or the first fault.
 const TEXTS: &str = "fmod M is => Header
