@@ -63,7 +63,44 @@ fn all_have_thirds(alloc: Global, draft: &Draft, ranks: &[Rank]) -> Result<bool,
     Ok(true)
 }
 
-/// Whether sorts of the kinds all have a least result by the ranks.
+/// How many of the ranks have a result neither at or below that of the rank nor above it.
+fn count_incomparable(draft: &Draft, ranks: &[Rank], rank: &Rank) -> u64 {
+    let mut count = 0u64;
+    for other in ranks {
+        if draft.is_at_or_below(rank.result, other.result) {
+            continue;
+        }
+        if !draft.is_at_or_below(other.result, rank.result) {
+            count = count.saturating_add(1);
+        }
+    }
+    count
+}
+
+/// How many lists of sorts and kinds are as long as this one.
+fn count_lists(draft: &Draft, kinds: &[SortId]) -> u64 {
+    let mut count = 1u64;
+    for _ in kinds {
+        count = count.saturating_mul(u64::from(draft.total));
+    }
+    count
+}
+
+/// Whether more pairs of ranks ask for a third than there are lists of sorts: then it takes less time to look at each list.
+fn are_many(draft: &Draft, kinds: &[SortId], ranks: &[Rank]) -> bool {
+    // Each pair is counted twice.
+    let most = count_lists(draft, kinds).saturating_mul(2);
+    let mut count = 0u64;
+    for rank in ranks {
+        count = count.saturating_add(count_incomparable(draft, ranks, rank));
+        if count > most {
+            return true;
+        }
+    }
+    false
+}
+
+/// Whether sorts of the kinds all have a least result by the ranks; of many ranks this is not asked.
 ///
 /// They have where one rank takes the kinds, and sorts that any two ranks take are taken by a third with a
 /// result at or below both: of finitely many results one is then at or below all.
@@ -77,6 +114,9 @@ fn have_lowest(
     ensures { IfOk result (λ b. IsTrue b → HaveLowest draft.now.declarations kinds.now ranks.now) }
 {
     if !one_takes(draft, ranks, kinds) {
+        return Ok(false);
+    }
+    if are_many(draft, kinds, ranks) {
         return Ok(false);
     }
     let all = all_have_thirds(alloc, draft, ranks)?;
