@@ -2,7 +2,7 @@
 ghost use Rattle.std.specs.Prelude.{◌≡◌, ◌↔◌, IsTrue, Some, All, IfOk};
 ghost use Rattle.fvn_flat.specs.Forms.{head_of};
 ghost use Rattle.fvn_rewrite_rules.specs.inner.Making.{IsKindedRule};
-ghost use Rattle.fvn_rewrite_rules.specs.inner.Heads.{HasAsInstance, ServesAs, SomeServesAs, AreLeft, AreNeededWith, AreNeeded, IsTable};
+ghost use Rattle.fvn_rewrite_rules.specs.inner.Heads.{HasAsInstance, SomeHasInstance, ServesAs, SomeServesAs, AreLeft, AreNeededWith, AreNeeded, IsTable};
 
 use crate::guessing::is_guessed;
 use crate::rule::Rule;
@@ -55,7 +55,26 @@ fn serves(alloc: Global, sig: &Signature, rule: &Rule, other: &Rule) -> Result<b
     Ok(true)
 }
 
-// Whether one of the rules serves in place of this one.
+// Whether one of the rules that are made from the same equation has this one as an instance, and serves in its place:
+// most identity instances of an equation are instances of the equation itself.
+fn own_serves(alloc: Global, sig: &Signature, rules: &[Rule], rule: &Rule) -> Result<bool, NoMemory>
+    requires rules { All (IsKindedRule sig.now) rules.now }
+    requires rule { IsKindedRule sig.now rule.now }
+    ensures { IfOk result (λ b. IsTrue b → SomeHasInstance sig.now rules.now rule.now) }
+{
+    for general in rules {
+        if general.equation != rule.equation {
+            continue;
+        }
+        let found = serves(alloc, sig, general, rule)?;
+        if found {
+            return Ok(true);
+        }
+    }
+    Ok(false)
+}
+
+// Whether one of the rules serves in place of this one; those of the same equation are asked first.
 fn some_serves(
     alloc: Global,
     sig: &Signature,
@@ -66,6 +85,10 @@ fn some_serves(
     requires rule { IsKindedRule sig.now rule.now }
     ensures { IfOk result (SomeServesAs sig.now rules.now rule.now) }
 {
+    let own = own_serves(alloc, sig, rules, rule)?;
+    if own {
+        return Ok(true);
+    }
     for general in rules {
         let found = serves(alloc, sig, general, rule)?;
         if found {

@@ -24,6 +24,9 @@ loop-general-preserved c =
     let general : Rule = c.general-item.result in
     none_of_more d c.args.rule.now (take i rules) (take (i + 1) rules) general (take-step rules i general c.loop-general-test.true c.general-item.is) c.loop-general.invariant c.in_ok-found.found c.if-found.false c.in_ok-found.ensures
 
+pub returns-then-own : goal.returns-then-own
+returns-then-own c = c.in_ok-own.ensures c.if-own.true
+
 pub returns-then-found : goal.returns-then-found
 returns-then-found c = (
   c.general-item.result,
