@@ -123,8 +123,8 @@ ValuesObeyChoices =
     → (y : Systems) → AreSystems d t (class_of s) y → ListsAlive d t s y → (values : ℕ → FlatTerm) → GoWith d t s values → ObeyHeads d t s heads values
     → (c : Choice) × IsPossible d t (class_of s) y c × IsFull d t (class_of s) y c × AreObeying d t (class_of s) y c values × TagsFollow d t (class_of s) c.tag values heads
 
--- where values go with a state, and obey these heads, each used class that has a summand for sure is in a minimal solution that is live:
--- where one is in none, no values go with the state
+-- where values go with a state that is nearly a leaf, and obey these heads, each used class that has a summand for sure is in a minimal solution
+-- that is live: where one is in none, there are no such values
 abbrev pub UnfilledHasNoValues : Type 0
 UnfilledHasNoValues =
     (d : Declarations) (t : NodeTable) → IsWellMade t → HasSums d t → (s : State) (heads : List (Option OpId)) → IsNearLeaf d t s

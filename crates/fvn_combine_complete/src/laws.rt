@@ -81,7 +81,7 @@ pub fn values_obey_choices()
     made_up_by_taken();
 }
 
-/// Where a class that has a summand for sure is in no minimal solution that is live, no values go with the state.
+/// Where a class that has a summand for sure is in no minimal solution that is live, no values that obey the heads go with the state.
 pub fn unfilled_has_no_values()
     ensures { UnfilledHasNoValues }
 {

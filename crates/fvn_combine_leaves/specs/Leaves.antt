@@ -120,7 +120,7 @@ module _ (d : Declarations) (t : NodeTable) where
     pub told : (k l : ℕ) → k ≢ l → IsOneSummand heads (class_of s) f k → IsOneSummand heads (class_of s) f l
         → 0 < component columns solution k → 0 < component columns solution l → AreTold s k l → ⊥
 
-  -- f uses class k, which has a summand for sure, and no minimal solution of f's sum system that is live has it: no values go with the state
+  -- f uses class k, which has a summand for sure, and no minimal solution of f's sum system that is live has it: no values that obey these heads go with the state
   pub record IsUnfilled (heads : List (Option OpId)) (s : State) (f : OpId) (k : ℕ) : Type 0 where
     pub operator : IsSumOperator f
     pub used : Uses (class_of s) f k

@@ -6,7 +6,7 @@ use Rattle.fvn_combine_nodes.specs.Table.{NodeTable}
 use Rattle.fvn_combine_nodes.specs.declared.state.State.{State}
 use Rattle.fvn_combine_leaves.specs.Leaves.{IsUnfilled}
 
--- some class is unfilled in the sums of some operator, where these operators are noted of classes: no values go with the state
+-- some class is unfilled in the sums of some operator, where these operators are noted of classes: no values that obey them go with the state
 pub record HasUnfilled (d : Declarations) (t : NodeTable) (heads : List (Option OpId)) (s : State) : Type 0 where
   pub operator : OpId
   pub class : ℕ

@@ -1,7 +1,7 @@
 //! Classes that have a summand for sure, and that no solution has which may stand for one.
 //!
-//! A summand of a class's value is one of some minimal solution that has the class. Where all of these are dead, no values go
-//! with the state: nothing need be asked of it.
+//! A summand of a class's value is one of some minimal solution that has the class. Where all of these are dead, no values that
+//! obey what is noted go with the state: where all do, nothing need be asked of it.
 ghost use Rattle.std.specs.Prelude.{◌≡◌, ◌<◌, length, slice_index, IsTrue, IsFalse};
 ghost use Rattle.fvn_combine_nodes.specs.States.{IsClosed, IsNaming, class_of};
 ghost use Rattle.fvn_combine_leaves.specs.Bases.{AreBases, HaveAlive};
@@ -171,7 +171,7 @@ fn has_unfilled(
 }
 
 /// Whether some class has a summand for sure in the sums of an operator, and no minimal solution that may stand for a summand
-/// has the class: no values go with the state.
+/// has the class: no values that obey what is noted go with the state.
 pub fn is_unfilled(
     sig: &Signature,
     table: &Table,
