@@ -3,7 +3,7 @@ use Rattle.std.proofs.Common.{subst}
 use Rattle.fvn_combine_questions.proofs.Walked.{more_of, all_of}
 use Rattle.fvn_combine_leaves.specs.declared.reading.Sums.{Sums}
 use Rattle.fvn_combine_questions.specs.inner.Past.{ArePastPairs}
-use Rattle.fvn_combine_questions.proofs.constants.constants_question.Goals as goal
+use Rattle.fvn_combine_questions.proofs.constants.open_of_any.Goals as goal
 
 pub loop-s-preserved : goal.loop-s-preserved
 loop-s-preserved c =
