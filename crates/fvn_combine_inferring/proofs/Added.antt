@@ -18,7 +18,7 @@ use Rattle.fvn_combine_nodes.specs.States.{IsClosed, class_of, is_same}
 use Rattle.fvn_combine_nodes.specs.declared.state.State.{State}
 use Rattle.fvn_combine_bounds.specs.CombineChoicesTables.{HasSums}
 use Rattle.fvn_combine_bounds.specs.CombineCompleteObeying.{GoWith}
-use Rattle.fvn_combine_inferring.specs.Inferred.{HaveTwoValues}
+use Rattle.fvn_combine_inferring.specs.Inferred.{HaveOneValue, HaveTwoValues}
 use Rattle.fvn_combine_inferring.specs.Rows.{summands, times, many, HaveSameSummands, HasSummand}
 use Rattle.fvn_combine_inferring.specs.inner.Bounds.{HasTwoSummands, IsPart}
 use Rattle.fvn_combine_inferring.specs.inner.Splits.{IsUnitNode, IsSplit}
@@ -104,6 +104,22 @@ module _ (d : Declarations) (t : NodeTable) (made : IsWellMade t) (has : HasSums
 
     pub second_some : HasSummand d t s sorted f p.1 → HasSummand d t s sorted f i
     second_some h values go = let a = many_adds d t s f values go.go i p.0 p.1 (adds values go.go) in let b = h values go in omega (arith, a, b)
+
+    module _ (n : ℕ) (unit : IsUnitNode t f n) where
+      -- what is in the class of the identity has no summands
+      unit_bare : (k : ℕ) → is_same s k n ≡ true → (values : ℕ → FlatTerm) → GoWith d t s values → summands d s f values k ≡ []
+      unit_bare k same values go_with =
+          let u = unit_value d t has s closed values go_with f n unit in
+          let c = eqb-true (class_of s k) (class_of s n) same in
+          ap (parts d f) (ap values c ∙ u.2) ∙ parts_identity d f u.0 u.1
+
+      -- where the first class, or the second, is that of the identity, the sum has the value of the other one
+      pub first_idle : is_same s p.0 n ≡ true → HaveOneValue d t s sorted i p.1
+      first_idle same values go =
+          alone d t s f values go.go i p.1 p.0 (turned d t s f values go.go i p.0 p.1 (adds values go.go)) (unit_bare p.0 same values go.go)
+
+      pub second_idle : is_same s p.1 n ≡ true → HaveOneValue d t s sorted i p.0
+      second_idle same values go = alone d t s f values go.go i p.0 p.1 (adds values go.go) (unit_bare p.1 same values go.go)
 
 module _ (d : Declarations) (t : NodeTable) (s : State) (sorted : Bool) (f : OpId) where
   -- what a class has holds of its members

@@ -25,7 +25,7 @@ pub struct Pairs {
     pub insides: Vec<Inside>,
     /// What the rows say that are read: a single summand, and the class that has it.
     pub held: Vec<Inside>,
-    /// Nodes that have one value, as a row says of which one side is empty.
+    /// Nodes that have one value: of a row of which one side is empty, and of sums that add the identity.
     pub equal: Vec<(usize, usize)>,
 }
 

@@ -15,6 +15,7 @@ use crate::emptying::note_one_sided;
 use crate::expressions::{Addition, addition_of};
 use crate::heads::Known;
 use crate::holding::{Pairs, is_held_within, note_row};
+use crate::idle::idle_sums;
 use crate::rows::{Row, row_at};
 use crate::rules::rule;
 use crate::sizes::{insides, is_circular};
@@ -59,6 +60,18 @@ impl Inferred {
             Inferred::Nothing => false,
             Inferred::Impossible => true,
             Inferred::Together(_, _) => true,
+            Inferred::Question(_, _) => false,
+        }
+    }
+
+    // Whether it is said that no values go with the state.
+    pub(crate) fn is_impossible(self) -> bool
+        ensures { IsTrue result ↔ (self ≡ Inferred.Impossible) }
+    {
+        match self {
+            Inferred::Nothing => false,
+            Inferred::Impossible => true,
+            Inferred::Together(_, _) => false,
             Inferred::Question(_, _) => false,
         }
     }
@@ -165,6 +178,10 @@ fn infer_of(
     ensures is { IfOk result (IsInferred sig.now table.now state.now known.now.sorted) }
     ensures pairs { OnOk result (ArePairs sig.now table.now state.now known.now.sorted pairs.new) }
 {
+    let idle = idle_sums(pairs, sig, table, state, known.sorted, f)?;
+    if idle.is_fact() {
+        return Ok(idle);
+    }
     let addition = addition_of(alloc, sig, table, state, known, f)?;
     let mut asked = Inferred::Nothing;
     for i in 0..table.nodes().len() {

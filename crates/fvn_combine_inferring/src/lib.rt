@@ -11,6 +11,7 @@ mod emptying;
 mod expressions;
 mod heads;
 mod holding;
+mod idle;
 mod inferring;
 mod labelling;
 mod laws;

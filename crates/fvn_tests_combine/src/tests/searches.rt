@@ -9,7 +9,8 @@ use fvn_terms::NoMemory;
 // without one, sums of these that can't be equal, bags of free terms, towers of both sums, and commutative terms below
 // a sum. Then problems that one rule decides: what stands on both sides is taken out, and one class is left on each, or
 // on one side alone; there are more summands than the other side can have; a summand is only one of the other side's, or
-// none; a class is inside itself; a class has a summand, and is no identity.
+// none; a class is inside itself; a class has a summand, and is no identity. Last, sums of six and of seven terms with one
+// variable that is the identity in most unifiers: all terms lose it at once. Their numbers of unifiers are Maude's.
 const SEARCHED: &str = "search A0 A1 l f k = o f l f k => few | 1 4
 search A0 A1 l f k A2 l f k = o f l f k f l f k => few | 1 4
 search A0 A1 l f k A2 l f k A3 l f k = o f l f k f l f k f l f k => few | 1 4
@@ -47,7 +48,9 @@ search A0 A1 l A2 m = A0 A2 l A1 m => few | 19 8
 search A0 A1 l A2 m A0 l = A2 A1 l A0 m A1 l => few | 30 7
 search A0 A1 k h A2 l = f h h A3 l => few | 2 1
 search A0 A1 k = A2 f k; A0 A3 l = A4 f l => few | 3 11
-search A0 A1 l A2 m A3 l = f => few | 7 4";
+search A0 A1 l A2 m A3 l = f => few | 7 4
+general A1 h A0 l Aa k A2 h A0 l Aa k k A3 h A0 l Aa k k A4 h A0 l Aa k k A5 h A0 l Aa k k A6 h A0 l Aa k k = Ab h Ac k Ad l => few | 13 8
+general A1 h A0 l Aa k A2 h A0 l Aa k k A3 h A0 l Aa k k A4 h A0 l Aa k k A5 h A0 l Aa k k A6 h A0 l Aa k k A7 h A0 l Aa k k = Ab h Ac k Ad l => few | 15 9";
 
 // The same over sums that are not neutral, with elements: an element is one summand at most. Six elements are split in
 // two in 64 ways, of which each is a choice, and nothing is asked: a row with no room shows both numbers as they are.

@@ -166,6 +166,8 @@ const SOLVED: &str = "4 20 A0 A1 k = A2 A3 k => unifiers 4
 100 200 A0 f k = A1 f k => complete 1
 100 200 A0 f h l = o h => complete 0
 100 200 f h A0 l = f h A1 l => complete 1
+100 200 A1 h A0 l Aa k A2 h A0 l Aa k k A3 h A0 l Aa k k A4 h A0 l Aa k k A5 h A0 l Aa k k A6 h A0 l Aa k k = Ab h Ac k Ad l => complete 8
+100 200 A1 h A0 l Aa k A2 h A0 l Aa k k A3 h A0 l Aa k k A4 h A0 l Aa k k A5 h A0 l Aa k k A6 h A0 l Aa k k A7 h A0 l Aa k k = Ab h Ac k Ad l => complete 9
 100 1000 A0* = A1* => complete 1 | A0 A1 i = A0 A0 i
 100 1000 f* = g* => complete 0";
 

@@ -7,7 +7,7 @@ pub addition_of-requires-clause-heads : goal.addition_of-requires-clause-heads
 addition_of-requires-clause-heads c = c.requires.heads.as_many
 
 pub loop-i-init : goal.loop-i-init
-loop-i-init c = record { told = tt; pairs = c.requires.pairs }
+loop-i-init c = record { told = tt; pairs = c.in_ok-idle.ensures.pairs }
 
 pub infer_at-requires-clause-pairs : goal.infer_at-requires-clause-pairs
 infer_at-requires-clause-pairs c = c.loop-i.invariant.pairs
