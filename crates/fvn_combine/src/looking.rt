@@ -7,7 +7,7 @@ ghost use Rattle.fvn_combine_leaves.specs.Leaves.{IsNearLeaf, IsLeaf, IsQuestion
 ghost use Rattle.fvn_combine_leaves.specs.Readings.{IsReading};
 ghost use Rattle.fvn_combine_choices.specs.Plans.{AreOfOneKind};
 ghost use Rattle.fvn_combine_drawing.specs.CombineCandidatesRefusals.{IsFirstRefused};
-ghost use Rattle.fvn_combine_inferring.specs.Inferred.{TellHeads, TellLabels};
+ghost use Rattle.fvn_combine_inferring.specs.Inferred.{HasNoValues, TellHeads, TellLabels};
 ghost use Rattle.fvn_combine.specs.inner.Found.{IsLooked, IsLookedAt, MayPart, MayPartOpen};
 
 use crate::effort::Effort;
@@ -20,7 +20,7 @@ use fvn_base::Seq;
 use fvn_combine_choices::classes_have_one_kind;
 use fvn_combine_drawing::{
     OpenFault, alive_bases_make_alive, bases, bases_from_last, bases_make_systems, readings_tell,
-    refusals_are_causes, sorted_leaves_cover, tables_have_sums,
+    refusals_are_causes, sorted_leaves_cover, tables_have_sums, unfilled_has_no_values,
 };
 use fvn_combine_inferring::{Inferred, Known, differ, infer, known_of, sorted_unifiers_go_with};
 use fvn_combine_leaves::Reading;
@@ -29,7 +29,7 @@ use fvn_combine_loose::{
     more_general_is_a_preorder, open_identities,
 };
 use fvn_combine_nodes::State;
-use fvn_combine_questions::{first_question, question_on_all, question_on_touched};
+use fvn_combine_questions::{first_question, is_unfilled, question_on_all, question_on_touched};
 use fvn_combine_reading::read;
 use fvn_combine_systems::{tables_are_small, tables_hold_arguments};
 use fvn_combine_tree::Tree;
@@ -178,6 +178,31 @@ fn open_touched(
     ))
 }
 
+// Whether a class is unfilled: then no values go with the state.
+fn has_no_values(
+    task: &Task,
+    state: &State,
+    reading: &Reading,
+    labels: &[Option<OpId>],
+    bases: &[Seq<Solution>],
+) -> bool
+    requires near { IsNearLeaf task.now.declarations task.now.table state.now }
+    requires reading { IsReading task.now.declarations task.now.table (class_of state.now)
+        reading.now }
+    requires labels { TellLabels task.now.declarations task.now.table state.now task.now.sorted
+        labels.now }
+    requires bases { AreBases reading.now.sums bases.now }
+    requires alive { HaveAlive task.now.declarations task.now.table state.now reading.now.sums
+        bases.now }
+    ensures { IsTrue result
+        → HasNoValues task.now.declarations task.now.table state.now task.now.sorted }
+{
+    task.recall();
+    tables_have_sums();
+    unfilled_has_no_values();
+    is_unfilled(task.sig, &task.table, state, reading, labels, bases)
+}
+
 // What is asked for by a state that is nearly a leaf, where minimal solutions are known.
 fn look_at_bases(
     task: &Task,
@@ -198,7 +223,11 @@ fn look_at_bases(
     ensures { IfOk result (IsLookedAt task.now state.now) }
 {
     task.recall();
+    sorted_unifiers_go_with();
     let labels = labels_of(task, state, &reading, &known, bases.as_slice())?;
+    if has_no_values(task, state, &reading, labels.as_slice(), bases.as_slice()) {
+        return Ok(Looked::Passed);
+    }
     match open_touched(task, state, &reading, labels.as_slice(), bases.as_slice())? {
         Some(pair) => asked(task, state, &known, pair.0, pair.1),
         None => look_at_leaf(task, state, reading, labels, bases),

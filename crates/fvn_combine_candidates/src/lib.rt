@@ -18,7 +18,7 @@ mod whole;
 
 pub use aliases::leave_no_alias;
 pub use fvn_combine_bounds::sorted_leaves_cover;
-pub use fvn_combine_complete::{readings_tell, tables_have_sums};
+pub use fvn_combine_complete::{readings_tell, tables_have_sums, unfilled_has_no_values};
 pub use last_first::bases_from_last;
 pub use laws::{
     alive_bases_make_alive, bases_make_systems, covering_choices_are_listed,

@@ -13,16 +13,17 @@ use Rattle.fvn_combine_questions.specs.Swaps.{IsSwap}
 use Rattle.fvn_combine_nodes.specs.declared.state.State.{State}
 use Rattle.fvn_combine_nodes.proofs.Nodes.{arguments_within}
 use Rattle.fvn_combine_nodes.proofs.Lists.{all_from}
-use Rattle.fvn_combine_leaves.specs.Leaves.{Uses, MayBeConstant, IsOneSummand, HaveTwoHeads, AreTouched, AreTold, IsLive, IsNotedSum, IsNearLeaf, IsFirstQuestion, IsQuestion, IsFullQuestion}
+use Rattle.fvn_combine_leaves.specs.Leaves.{Uses, MayBeConstant, HaveTwoHeads, AreTouched, AreTold, IsLive, IsNotedSum, IsNearLeaf, IsFirstQuestion, IsQuestion, IsFullQuestion}
 use Rattle.fvn_combine_leaves.specs.Bases.{AreBases, HaveAlive}
 use Rattle.fvn_combine_leaves.specs.Readings.{AreSums, IsReading}
 use Rattle.fvn_combine_questions.specs.inner.Past.{IsOpenPairOr, IsPastUser, ArePastIdentities, ArePastClasses, ArePastPairs}
-use Rattle.fvn_combine_leaves.specs.Users.{IsWhole, IsMarked, HasTwinIn, IsSharedIn, CanBeConstant, HaveHeads}
-use Rattle.fvn_combine_questions.specs.inner.Touched.{AreAllWide, IsNotedIn, IsOneSummandIn, IsSingleIn, AreToldIn, IsDead, IsPastSolution, AreAllPast}
+use Rattle.fvn_combine_leaves.specs.Users.{IsWhole, HasTwinIn, IsSharedIn, CanBeConstant, HaveHeads}
+use Rattle.fvn_combine_questions.specs.inner.Touched.{AreAllWide, IsNotedIn, IsPastSolution, AreAllPast}
 use Rattle.fvn_combine_leaves.specs.declared.reading.Sums.{Sums}
 use Rattle.fvn_combine_leaves.specs.declared.reading.Reading.{Reading}
-use Rattle.fvn_combine_leaves.proofs.ReadOfState.{column_within, reading_whole as whole_of_nodes, marked_to, marked_from, entry_of, twin_in, shared_in, shared_from}
-use Rattle.fvn_combine_questions.proofs.ColumnsOfLeaves.{contained_at, place_of, HasOwn, can_be, two_heads, sums_at, node_at, told_of, column_of, own_of}
+use Rattle.fvn_combine_leaves.proofs.ReadOfState.{column_within, reading_whole as whole_of_nodes, marked_to, entry_of, twin_in, shared_in}
+use Rattle.fvn_combine_questions.proofs.SummandsOfLeaves.{live_alive, not_dead}
+use Rattle.fvn_combine_questions.proofs.ColumnsOfLeaves.{contained_at, place_of, HasOwn, can_be, two_heads, told_of, column_of, own_of}
 
 module _ (d : Declarations) (t : NodeTable) (made : IsWellMade t) (s : State) (closed : IsClosed d t s) where
   -- two nodes that a swap asks of
@@ -97,60 +98,12 @@ module _ (d : Declarations) (t : NodeTable) (made : IsWellMade t) (s : State) (c
           at_place : slice_get r.sums c.0 ≡ Some e
           at_place = place_of r.sums e c
 
-          system_of : AreSums d t (class_of s) e
-          system_of = sums_at d t made s closed r reading c.0 e at_place
-
-          -- columns that are told apart have classes that are
-          told_at : (i j : ℕ) → i < length e.columns → j < length e.columns → AreToldIn r e s i j → AreTold d t s (get_or e.columns i 0) (get_or e.columns j 0)
-          told_at = told_of d t made s closed r reading c.0 e at_place
-
-          -- a class that is one summand by its head, or by what is noted, is one
-          summand_of : (k : ℕ) → k < length t.nodes → IsMarked e k → IsOneSummandIn r e (IsNotedIn d heads) k → IsOneSummand d t heads (class_of s) e.operator k
-          summand_of k node marked (inl g) = inl (record {
-            used = marked_from d t made s closed r reading e c k marked;
-            head = g.0;
-            other = g.2;
-            solid = (reading.heads.exact k g.0 node).0 g.1;
-          })
-          summand_of k node marked (inr (own, user)) = inr (record {
-            shared = shared_from d t made s closed r reading k node own;
-            used = marked_from d t made s closed r reading e c k marked;
-            operator = user.entry.operator;
-            other = user.other;
-            uses = marked_from d t made s closed r reading user.entry user.listed k user.uses;
-            noted = record { noted = user.sum.0; some = user.sum.1 };
-          })
-
-          -- the class of a column that has a single summand is one
-          single_of : (v : Solution) (i : ℕ) → i < length e.columns → IsSingleIn r e (IsNotedIn d heads) v i → IsOneSummand d t heads (class_of s) e.operator (get_or e.columns i 0)
-          single_of v i within h = summand_of (get_or e.columns i 0) (node_at d t made s closed r reading c.0 e at_place i within) h.used h.one
-
           module _ (k l : ℕ) (mk : MayBeConstant d t (class_of s) e.operator k) (ml : MayBeConstant d t (class_of s) e.operator l) (nk : IsNotedSum d t heads e.operator k → ⊥) (nl : IsNotedSum d t heads e.operator l → ⊥) (h : AreTouched d t (class_of s) e.operator k l) (live : IsLive d t heads s e.operator h.columns h.solution) where
             own_solution : HasOwn (get_or bases c.0 []) e h.columns h.solution
-            own_solution = own_of d t made s closed r reading c.0 e at_place bases have h.columns h.system h.is h.solution h.minimal (λ x y other a b. live x y other (inl a) (inl b))
+            own_solution = own_of d t made s closed r reading c.0 e at_place bases have h.columns h.system h.is h.solution h.minimal (live_alive d t heads s e.operator h.columns h.solution live)
 
             abbrev own : Solution
             own = own_solution.own
-
-            part : (j : ℕ) → j < length e.columns → get_or own.parts j 0 ≡ component h.columns h.solution (get_or e.columns j 0)
-            part = own_solution.part
-
-            not_dead : IsDead r e s (IsNotedIn d heads) own → ⊥
-            not_dead x =
-                let i = x.column in
-                let j = x.dead.other in
-                let before = x.dead.before in
-                let i_within = x.within in
-                let j_within : j < length e.columns = omega (arith, before, i_within) in
-                let left = x.dead.left.some in
-                let right = x.dead.right.some in
-                let a = part i i_within in
-                let b = part j j_within in
-                live (get_or e.columns i 0) (get_or e.columns j 0)
-                (λ same. system_of.is_system.distinct j i 0 before i_within (sym same))
-                (single_of own i i_within x.dead.left) (single_of own j j_within x.dead.right)
-                (omega (arith, a, left)) (omega (arith, b, right))
-                (told_at i j i_within j_within x.dead.told)
 
             -- a class of which no sum is noted is not found as one
             not_noted : (m : ℕ) → (IsNotedSum d t heads e.operator m → ⊥) → (i : ℕ) → get_or e.columns i 0 ≡ m → IsNotedIn d heads e.operator (get_or e.columns i 0) → ⊥
@@ -160,15 +113,15 @@ module _ (d : Declarations) (t : NodeTable) (made : IsWellMade t) (s : State) (c
             apart_where_touched =
                 let i = column_of d t made s closed r reading c.0 e at_place k mk in
                 let j = column_of d t made s closed r reading c.0 e at_place l ml in
-                let a = part i.0 i.1 in
-                let b = part j.0 j.1 in
+                let a = own_solution.part i.0 i.1 in
+                let b = own_solution.part j.0 j.1 in
                 let at_i = ap (component h.columns h.solution) i.2 in
                 let at_j = ap (component h.columns h.solution) j.2 in
                 let p = h.left in
                 let q = h.right in
                 elim (All-contains (IsPastSolution r e s (IsNotedIn d heads)) (get_or bases c.0 []) own (past c.0 e at_place) own_solution.listed) [
-                  | inl x ↦ absurd (not_dead x)
-                  | inr at ↦ subst₂ (AreTold d t s) i.2 j.2 (told_at i.0 j.0 i.1 j.1 (at i.0 i.1 (omega (arith, a, at_i, p), subst (CanBeConstant r e) (sym i.2) (can_be d t made s closed r reading e c k mk), not_noted k nk i.0 i.2) j.0 j.1 (omega (arith, b, at_j, q), subst (CanBeConstant r e) (sym j.2) (can_be d t made s closed r reading e c l ml), not_noted l nl j.0 j.2)))
+                  | inl x ↦ absurd (not_dead d t made s closed r reading heads e c own_solution live x)
+                  | inr at ↦ subst₂ (AreTold d t s) i.2 j.2 (told_of d t made s closed r reading c.0 e at_place i.0 j.0 i.1 j.1 (at i.0 i.1 (omega (arith, a, at_i, p), subst (CanBeConstant r e) (sym i.2) (can_be d t made s closed r reading e c k mk), not_noted k nk i.0 i.2) j.0 j.1 (omega (arith, b, at_j, q), subst (CanBeConstant r e) (sym j.2) (can_be d t made s closed r reading e c l ml), not_noted l nl j.0 j.2)))
                 ]
 
       -- the answer where pairs are asked that a solution has both of

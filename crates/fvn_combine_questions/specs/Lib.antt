@@ -1,3 +1,4 @@
 -- The words of questions on states.
 pub mod Swaps
+pub mod Unfilled
 pub mod inner

@@ -4,3 +4,4 @@ pub mod Past
 pub mod Touched
 pub mod Ranks
 pub mod Labels
+pub mod Filling

@@ -5,6 +5,7 @@ mod asking;
 mod backwards;
 mod best;
 mod constants;
+mod filling;
 mod identities;
 mod labels;
 mod standing;
@@ -12,5 +13,6 @@ mod swaps;
 mod touched;
 
 pub use asking::{first_question, question_on_all, question_on_touched};
+pub use filling::is_unfilled;
 pub use labels::sieve_labels;
 pub use swaps::undecided;

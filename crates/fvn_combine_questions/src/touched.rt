@@ -1,8 +1,8 @@
 //! Columns of a minimal solution, which of its classes are single summands, and which of them are told apart.
 //!
-//! A solution that is taken stands for one summand. Where two classes that it has are single summands and are known to
-//! differ, it is never taken, so that nothing is asked of it; nor is anything asked of classes that are noted as sums by the
-//! operator, which are never constants of it.
+//! A solution that is taken stands for one summand. Where it adds a single summand several times, or two classes that it has
+//! are single summands and are known to differ, it is never taken, so that nothing is asked of it; nor is anything asked of
+//! classes that are noted as sums by the operator, which are never constants of it.
 ghost use Rattle.std.specs.Prelude.{◌≡◌, ◌↔◌, ◌<◌, length, slice_index, IsTrue, IsFalse};
 ghost use Rattle.fvn_combine_nodes.specs.States.{IsNaming, IsOpen};
 ghost use Rattle.fvn_combine_leaves.specs.Users.{IsWholeSums, IsWhole};
@@ -28,6 +28,14 @@ pub(crate) fn has_column(v: &Solution, i: usize) -> bool
     ensures { IsTrue result ↔ (0 < slice_index v.now.parts i) }
 {
     v.parts.as_slice()[i] > 0
+}
+
+// Whether the solution is above one in column i.
+fn has_several(v: &Solution, i: usize) -> bool
+    requires { i < length v.now.parts }
+    ensures { IsTrue result → 1 < slice_index v.now.parts i }
+{
+    v.parts.as_slice()[i] > 1
 }
 
 // Whether the solution has column i, whose class may be a constant of the operator, and is not noted as a sum by it.
@@ -101,7 +109,8 @@ pub(crate) fn are_told(state: &State, reading: &Reading, sums: &Sums, i: usize, 
     !state.is_open(columns[i], columns[j])
 }
 
-// Whether the solution has column i and one before it, whose classes are single summands and told apart.
+// Whether the solution has column i, whose class is a single summand, and has it several times, or has one before it that is
+// a single summand too and told apart.
 fn is_dead_at(
     sig: &Signature,
     state: &State,
@@ -122,6 +131,9 @@ fn is_dead_at(
     let n = state.names.len();
     if !is_single(sig, reading, heads, n, sums, v, i) {
         return false;
+    }
+    if has_several(v, i) {
+        return true;
     }
     for j in 0..i {
         if !is_single(sig, reading, heads, n, sums, v, j) {

@@ -55,13 +55,22 @@ module _ (r : Reading) (e : Sums) (s : State) where
   AreToldIn i j = HaveHeads r (slice_index e.columns i) (slice_index e.columns j) ⊎ (IsOpen s (slice_index e.columns i) (slice_index e.columns j) → ⊥)
 
   module _ (noted : OpId → ℕ → Type 0) where
-    -- the solution has column i and one before it, whose classes are single summands and told apart: it stands for no summand
-    pub record IsDeadAt (v : Solution) (i : ℕ) : Type 0 where
+    -- the solution has column i, whose class is a single summand, more than once
+    pub record IsRepeatedAt (v : Solution) (i : ℕ) : Type 0 where
+      pub several : 1 < slice_index v.parts i
+      pub single : IsSingleIn r e noted v i
+
+    -- the solution has column i and one before it, whose classes are single summands and told apart
+    pub record IsTornAt (v : Solution) (i : ℕ) : Type 0 where
       pub other : ℕ
       pub before : other < i
       pub left : IsSingleIn r e noted v i
       pub right : IsSingleIn r e noted v other
       pub told : AreToldIn i other
+
+    -- so it stands for no summand, which is one term
+    abbrev pub IsDeadAt : Solution → ℕ → Type 0
+    IsDeadAt v i = IsRepeatedAt v i ⊎ IsTornAt v i
 
     -- so it is at some column
     pub record IsDead (v : Solution) : Type 0 where

@@ -40,7 +40,7 @@ search A0 A1 i A2 h k = f g i o k => few | 1 0
 search A0 f h l = o h => few | 0 0
 search o f k A0 l = f g k A1 h l => few | 0 0
 search A0 A1 k A2 h l = f h A3 A4 k l => few | 1 7
-search A0 = A0 h A1 l => few | 1 1
+search A0 = A0 h A1 l => few | 1 0
 search A0 = A1 f n; A1 = A0 f k => few | 1 0
 search A0 = A1 o h l; A1 = A0 f m => few | 1 0
 search A0 = A1 o h l; A1 = A2 f m; A2 = A0 f l => few | 1 0
@@ -247,4 +247,20 @@ const SEARCHED_OF_PAIRS: &str =
 fn different_constants_are_no_choice(rt: HostRuntime) -> Result<(), NoMemory> {
     assert_rows(&rt, rt.alloc(), CONSTANTS, SEARCHED_OF_CONSTANTS)?;
     assert_rows(&rt, rt.alloc(), OPERATORS, SEARCHED_OF_PAIRS)
+}
+
+// A variable twice beside terms of one operator, against another one twice beside as many of another: a term of the left side
+// that is one of no other is a summand of the right side's variable, and so stands there twice, which its one does not, so that
+// no values are sought where it is kept apart from all others of its side; there is no unifier, with six terms and with eight.
+// Then four terms beside a variable that stands four times, against the like. The number of unifiers is Maude's.
+const SEARCHED_OF_TERMS: &str =
+    "general A0 A0 r f u r g u r h u r i u r j u r k u r = A1 A1 r A2 f v r A3 f v r A4 f v r A5 f v r A6 f v r A7 f v r => few | 12 0
+general A0 A0 r f u r g u r h u r i u r j u r k u r l u r m u r = A1 A1 r A2 f v r A3 f v r A4 f v r A5 f v r A6 f v r A7 f v r A8 f v r A9 f v r => few | 23 0
+general A1 u A0 r A2 u r A0 r A3 u r A0 r A4 u r A0 r = A6 u A5 r A7 u r A5 r A8 u r A5 r A9 u r A5 r => few | 165 26
+100 200 A0 A0 r f u r g u r h u r i u r j u r k u r = A1 A1 r A2 f v r A3 f v r A4 f v r A5 f v r A6 f v r A7 f v r => complete 0
+100 200 A1 u A0 r A2 u r A0 r A3 u r A0 r A4 u r A0 r = A6 u A5 r A7 u r A5 r A8 u r A5 r A9 u r A5 r => complete 26";
+
+#[test]
+fn classes_without_a_summand_are_passed_over(rt: HostRuntime) -> Result<(), NoMemory> {
+    assert_rows(&rt, rt.alloc(), CONSTANTS, SEARCHED_OF_TERMS)
 }
