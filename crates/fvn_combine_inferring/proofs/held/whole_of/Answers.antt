@@ -1,5 +1,5 @@
 -- The class is the whole list, or the only one that may hold the summands.
-use Rattle.std.proofs.Common.{◌<◌, length, subst}
+use Rattle.std.proofs.Common.{length}
 use Rattle.fvn_combine_inferring.proofs.Wholes.{alone_holds, alone_within}
 use Rattle.fvn_combine_inferring.proofs.held.whole_of.Goals as goal
 
