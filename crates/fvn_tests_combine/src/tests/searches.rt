@@ -45,7 +45,7 @@ search A0 = A1 f n; A1 = A0 f k => few | 1 0
 search A0 = A1 o h l; A1 = A0 f m => few | 1 0
 search A0 = A1 o h l; A1 = A2 f m; A2 = A0 f l => few | 1 0
 search A0 A1 l A2 m = A0 A2 l A1 m => few | 19 8
-search A0 A1 l A2 m A0 l = A2 A1 l A0 m A1 l => few | 30 7
+search A0 A1 l A2 m A0 l = A2 A1 l A0 m A1 l => few | 13 5
 search A0 A1 k h A2 l = f h h A3 l => few | 2 1
 search A0 A1 k = A2 f k; A0 A3 l = A4 f l => few | 3 11
 search A0 A1 l A2 m A3 l = f => few | 7 4
@@ -97,8 +97,8 @@ search A0 A1 h = A0 A2 i => few | 5 3
 search A0 A1 h A0 i = A1 => few | 7 3
 search A0 A1 h A0 i = A2 A3 i => few | 3 23
 search A0 A1 h A2 i = A0 A2 h A1 i => few | 10 27
-search A0 A1 h A2 A3 h i A0 i = A0 A2 h A1 A3 h i A1 i => few | 124 142
-search A0 A1 i A2 h A3 i = A2 A3 i A0 h A1 i => few | 93 132
+search A0 A1 h A2 A3 h i A0 i = A0 A2 h A1 A3 h i A1 i => few | 122 137
+search A0 A1 i A2 h A3 i = A2 A3 i A0 h A1 i => few | 89 130
 search A0 A1 A2 i h A1 A0 A3 i h i = A2 A3 i => few | 89 100";
 
 #[test]
@@ -124,7 +124,7 @@ const SUMS: &str =
 // Sums of two products below a free operator, one product with the same within it, and one variable on both sides: what is
 // known to be a sum is no constant of its operator, so that nothing is asked of it.
 const SEARCHED_OF_SUMS: &str =
-    "general j A1 i j A0 i A2 A3 i h l A3 i h l = j A4 i j A5 i A6 A3 i h l A3 i h l => few | 31 13
+    "general j A1 i j A0 i A2 A3 i h l A3 i h l = j A4 i j A5 i A6 A3 i h l A3 i h l => few | 25 10
 100 200 j A1 i j A0 i A2 A3 i h l A3 i h l = j A4 i j A5 i A6 A3 i h l A3 i h l => complete 5";
 
 // Towers: a sum below another one, beside a summand with a constant, and this put into itself. Those of k over h against a
