@@ -249,10 +249,10 @@ fn different_constants_are_no_choice(rt: HostRuntime) -> Result<(), NoMemory> {
     assert_rows(&rt, rt.alloc(), OPERATORS, SEARCHED_OF_PAIRS)
 }
 
-// A variable twice beside terms of one operator, against another one twice beside as many of another: a term of the left side
-// that is one of no other is a summand of the right side's variable, and so stands there twice, which its one does not, so that
-// no values are sought where it is kept apart from all others of its side; there is no unifier, with six terms and with eight.
-// Then four terms beside a variable that stands four times, against the like. The number of unifiers is Maude's.
+// A variable twice beside terms of one operator, against another one twice beside as many terms of another operator: a minimal
+// solution that has the first term has it twice, or another term besides. As soon as it is told that this term is none of the
+// others no more is asked, and there is no unifier: with six terms and with eight. Then four terms beside a variable that stands
+// four times, against the like. The number of unifiers is Maude's.
 const SEARCHED_OF_TERMS: &str =
     "general A0 A0 r f u r g u r h u r i u r j u r k u r = A1 A1 r A2 f v r A3 f v r A4 f v r A5 f v r A6 f v r A7 f v r => few | 12 0
 general A0 A0 r f u r g u r h u r i u r j u r k u r l u r m u r = A1 A1 r A2 f v r A3 f v r A4 f v r A5 f v r A6 f v r A7 f v r A8 f v r A9 f v r => few | 23 0
