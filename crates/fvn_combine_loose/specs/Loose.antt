@@ -4,13 +4,14 @@ use Rattle.fvn_terms.specs.declared.plain.Var.{Var as Variable}
 use Rattle.fvn_terms.specs.declared.plain.OpId.{OpId}
 use Rattle.fvn_terms.specs.declared.plain.SortId.{SortId}
 use Rattle.fvn_terms.specs.declared.declarations.Declarations.{Declarations}
-use Rattle.fvn_terms.specs.Signature.{axioms, AtOrBelow}
+use Rattle.fvn_terms.specs.Signature.{axioms, AtOrBelow, IsTerm}
 use Rattle.fvn_terms.specs.Equality.{IsAssociative, IsCommutative}
 use Rattle.fvn_terms.specs.Sorts.{HasSort}
-use Rattle.fvn_forms.specs.Flat.{FlatTerm}
+use Rattle.fvn_forms.specs.Flat.{FlatTerm, plain}
 use Rattle.fvn_forms.specs.Settled.{Settled}
 use Rattle.fvn_forms.specs.Canon.{parts}
 use Rattle.fvn_forms.specs.LeastSort.{least_sort}
+use Rattle.fvn_forms.specs.Good.{IsOfKind}
 use Rattle.fvn_combine_nodes.specs.Table.{NodeTable, IsOver, term_at}
 use Rattle.fvn_combine_nodes.specs.Classes.{AreTogether}
 use Rattle.fvn_combine_nodes.specs.States.{IsOpen, class_of}
@@ -71,9 +72,10 @@ module _ (s : State) (heights : List ℕ) (sums : List (Option (OpId × ℕ))) w
     pub are : ks ≡ first ∷ second ∷ []
     pub one : (Bears f p first × (height_of s heights second ≡ 0)) ⊎ ((height_of s heights first ≡ 0) × Bears f p second)
 
--- a sum of f has the sort exactly where each of its summands has it
-abbrev pub IsSumSort : Declarations → OpId → SortId → Type 0
-IsSumSort d f q = (v : FlatTerm) → Settled d v → AtOrBelow d (least_sort d v) q ↔ All (λ p. AtOrBelow d (least_sort d p) q) (parts d f v)
+-- the sort is of the kind of f, and a sum of f has it exactly where each of its summands has it
+pub record IsSumSort (d : Declarations) (f : OpId) (q : SortId) : Type 0 where
+  pub of_kind : IsOfKind d f q
+  pub exact : (v : FlatTerm) → Settled d v → IsTerm d (plain v) → AtOrBelow d (least_sort d v) q ↔ All (λ p. AtOrBelow d (least_sort d p) q) (parts d f v)
 
 module _ (d : Declarations) (t : NodeTable) (s : State) (sorted : Bool) where
   -- an operator heads a member of node i's class that is not idle
