@@ -16,4 +16,6 @@ mod Preorder
 mod Spreading
 mod PartedPairs
 mod Checked
+mod Summed
+mod SumSorts
 mod Ranked

@@ -14,8 +14,8 @@ use fvn_terms::{OpId, Rank, SortId};
 fn are_below(sig: &Signature, sorts: &[SortId], q: SortId) -> bool
     ensures { IsTrue result → All (λ s. AtOrBelow sig.now s q) sorts.now }
 {
-    for s in sorts {
-        if !sig.leq(*s, q) {
+    for p in 0..sorts.len() {
+        if !sig.leq(sorts[p], q) {
             return false;
         }
     }
@@ -40,8 +40,8 @@ fn are_within(sig: &Signature, ranks: &[Rank], q: SortId) -> bool
     ensures some { IsTrue result → 0 < length ranks.now }
     ensures all { IsTrue result → All (IsWithin sig.now q) ranks.now }
 {
-    for rank in ranks {
-        if !is_within(sig, rank, q) {
+    for p in 0..ranks.len() {
+        if !is_within(sig, &ranks[p], q) {
             return false;
         }
     }

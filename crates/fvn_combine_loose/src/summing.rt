@@ -1,5 +1,5 @@
 //! Whether a class is loose by guessed heights and sums.
-ghost use Rattle.std.specs.Prelude.{◌≡◌, ◌×◌, ◌<◌, ◌∷◌, [], ℕ, length, slice_index_or, None, All, IsTrue};
+ghost use Rattle.std.specs.Prelude.{◌≡◌, ◌<◌, ◌∷◌, [], ℕ, length, slice_index_or, None, All, IsTrue};
 ghost use Rattle.fvn_terms.specs.Signature.{axioms};
 ghost use Rattle.fvn_terms.specs.Equality.{IsAssociative};
 ghost use Rattle.fvn_combine_nodes.specs.States.{IsClosed, class_of};
@@ -509,8 +509,8 @@ pub(crate) fn is_loose_by_sums(
     if height_at(state, draft.heights.as_slice(), draft.bottom) == 0 {
         return false;
     }
-    if sum_at(state, draft.sums.as_slice(), draft.bottom).is_some() {
-        return false;
+    match sum_at(state, draft.sums.as_slice(), draft.bottom) {
+        Some(_) => false,
+        None => are_put(sig, table, state, ground, draft),
     }
-    are_put(sig, table, state, ground, draft)
 }
