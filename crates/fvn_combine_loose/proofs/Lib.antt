@@ -1,9 +1,11 @@
 -- Lemmas of loose classes, of what is checked of guessed heights, and of substitutions that are more general than a unifier.
 mod Decisions
 mod Mapped
+mod Rests
 mod Setting
 mod Deep
 mod NewVariable
+mod Summing
 mod Worths
 mod Remade
 mod After
