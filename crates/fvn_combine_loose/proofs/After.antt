@@ -77,8 +77,8 @@ module _ {d : Declarations} {problem : Problem} {t : NodeTable} {s : State} {z :
   ]
     where
       made : 0 < height i → class_of s i ≢ class_of s z → entry g i ≡ None → ((k : ℕ) → height k ≤ n → k < length t.nodes → BEqual d (apply after (remade g k)) (apply u (term_at t.nodes k))) → BEqual d (apply after (remade g i)) (apply u (term_at t.nodes i))
-      made st other none before =
-          let r = remade_headed g i l st other none in
+      made st other unnoted before =
+          let r = remade_headed g i l st other unnoted in
           let m = r.0 in
           let within = slice_get_within t.nodes m.member (App m.operator m.arguments) m.over in
           let e = same_height g m.member i m.of in
@@ -98,7 +98,7 @@ module _ {d : Declarations} {problem : Problem} {t : NodeTable} {s : State} {z :
           subst (λ v. BEqual d v (apply u (term_at t.nodes i))) (sym (ap (apply after) (remade_bottom g i l e) ∙ after_new))
           (one_value g z i g.loose.within l (sym e))
       go st (inr other) before = elim (noted (entry g i)) as (λ _. BEqual d (apply after (remade g i)) (apply u (term_at t.nodes i))) [
-        | inl none ↦ made st other none before
+        | inl unnoted ↦ made st other unnoted before
         | inr w ↦ let m = g.loose.sum i w.0 w.1 l w.2 in let low = m.lower in after_summed i l w.0 w.1 w.2 (before w.1 (omega (arith, low, h)) m.part)
       ]
 

@@ -10,6 +10,7 @@ mod Worths
 mod Remade
 mod After
 mod Idle
+mod Summed
 mod Loosened
 mod Admitted
 mod GivenSorts
