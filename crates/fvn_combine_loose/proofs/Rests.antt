@@ -13,7 +13,7 @@ use Rattle.fvn_terms.specs.Signature.{kind, declared, axioms, HasKind, IsTerm}
 use Rattle.fvn_terms.specs.Equality.{two, IsAssociative, BEqual}
 use Rattle.fvn_forms.specs.Flat.{FlatTerm, plain}
 use Rattle.fvn_forms.specs.Order.{same_flat}
-use Rattle.fvn_forms.specs.InOrder.{one_if, count, sort, SameCounts}
+use Rattle.fvn_forms.specs.InOrder.{one_if, count, SameCounts}
 use Rattle.fvn_forms.specs.Canon.{parts, sum, canon}
 use Rattle.fvn_forms.specs.Settled.{IsPiece, Settled}
 use Rattle.fvn_forms.specs.FitsKinds.{FitsKinds}

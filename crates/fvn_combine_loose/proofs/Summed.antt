@@ -1,5 +1,5 @@
 -- The new value of a member of a sum is its operator over those of its two arguments, up to the axioms.
-use Rattle.std.proofs.Common.{◌≡◌, ◌⊎◌, ℕ, ◌+◌, ◌<◌, List, length, map, ap, ◌∙◌, sym, subst, inl, inr, arith}
+use Rattle.std.proofs.Common.{◌≡◌, ℕ, ◌+◌, ◌<◌, List, length, map, ap, ◌∙◌, inl, inr, arith}
 use Rattle.fvn_terms.specs.declared.plain.OpId.{OpId}
 use Rattle.fvn_terms.specs.declared.declarations.Declarations.{Declarations}
 use Rattle.fvn_terms.specs.Term.{Term, app, pack}
@@ -10,8 +10,7 @@ use Rattle.fvn_forms.specs.Flat.{FlatTerm}
 use Rattle.fvn_forms.specs.InOrder.{count}
 use Rattle.fvn_forms.specs.Canon.{parts}
 use Rattle.fvn_forms.proofs.Eval.{canon_respects}
-use Rattle.fvn_combine_nodes.specs.Table.{NodeTable, IsOver, term_at}
-use Rattle.fvn_combine_nodes.specs.States.{class_of}
+use Rattle.fvn_combine_nodes.specs.Table.{NodeTable, IsOver}
 use Rattle.fvn_combine_nodes.specs.declared.state.State.{State}
 use Rattle.fvn_combine_nodes.proofs.Subterms.{node_kinded}
 use Rattle.fvn_combine_loose.specs.Loose.{Bears, IsBearing}

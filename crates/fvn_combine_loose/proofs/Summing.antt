@@ -11,12 +11,12 @@ use Rattle.fvn_terms.specs.Term.{Term, app, pack}
 use Rattle.fvn_terms.specs.Substitution.{Substitution, apply}
 use Rattle.fvn_terms.specs.Signature.{kind, axioms, HasKind, IsTerm}
 use Rattle.fvn_terms.specs.Sorts.{HasSort}
-use Rattle.fvn_terms.specs.Equality.{two, IsAssociative}
+use Rattle.fvn_terms.specs.Equality.{IsAssociative}
 use Rattle.fvn_terms.specs.Unifiers.{Problem}
 use Rattle.fvn_terms.proofs.Equal.{HasKind-apply}
 use Rattle.fvn_forms.specs.Flat.{FlatTerm}
 use Rattle.fvn_forms.specs.InOrder.{count}
-use Rattle.fvn_forms.specs.Canon.{parts, canon}
+use Rattle.fvn_forms.specs.Canon.{parts}
 use Rattle.fvn_forms.specs.Good.{IsGood}
 use Rattle.fvn_forms.proofs.Eval.{canon_respects}
 use Rattle.fvn_forms.proofs.KindsKept.{kind_unique, both_of_kind, b_equal_keeps_kind}
