@@ -30,7 +30,7 @@ use Rattle.fvn_combine_loose.proofs.Decisions.{var_decided, only_same, only_othe
 use Rattle.fvn_combine_loose.proofs.Mapped.{equal_is, apply_mapped, each_equal}
 use Rattle.fvn_combine_loose.proofs.Setting.{Setting, noted, entry, class_within, class_again, one_value, same_height, argument_within, argument_at}
 use Rattle.fvn_combine_loose.proofs.NewVariable.{bottom, new, not_in_old, bottom_kinded, new_kind, bottom_sort}
-use Rattle.fvn_combine_loose.proofs.Summing.{Sum, old}
+use Rattle.fvn_combine_loose.proofs.Splitting.{Sum, old}
 use Rattle.fvn_combine_loose.proofs.Remade.{same_or_other, remade, remade_low_is, remade_bottom, remade_headed, remade_summed}
 
 module _ {d : Declarations} {problem : Problem} {t : NodeTable} {s : State} {z : ℕ} {heights : List ℕ} {u : Substitution} (g : Setting d problem t s z heights u) where

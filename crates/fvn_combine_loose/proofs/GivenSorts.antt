@@ -40,10 +40,10 @@ use Rattle.fvn_combine_loose.proofs.Rests.{contains_counted, counted_contained, 
 use Rattle.fvn_combine_loose.proofs.Setting.{Setting, noted, entry, one_value, same_height}
 use Rattle.fvn_combine_loose.proofs.Deep.{NodeUpTo, below_over}
 use Rattle.fvn_combine_loose.proofs.NewVariable.{bottom, new, new_sort, bottom_kinded}
-use Rattle.fvn_combine_loose.proofs.Summing.{Sum, old as old_at, old_kinded}
+use Rattle.fvn_combine_loose.proofs.Splitting.{Sum, old as old_at, old_kinded}
 use Rattle.fvn_combine_loose.proofs.Remade.{same_or_other, remade, remade_same, remade_low, remade_bottom}
 use Rattle.fvn_combine_loose.proofs.After.{remade_kinded}
-use Rattle.fvn_combine_loose.proofs.Summed.{sum_often}
+use Rattle.fvn_combine_loose.proofs.Exchanged.{sum_often}
 use Rattle.fvn_combine_loose.proofs.Loosened.{loosened, loosened_given, loosened_other, loosened_node, loosened_keeps, node_value}
 
 -- terms that are equal modulo the axioms have the same sorts

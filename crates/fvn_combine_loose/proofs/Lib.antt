@@ -5,12 +5,12 @@ mod Rests
 mod Setting
 mod Deep
 mod NewVariable
-mod Summing
+mod Splitting
 mod Worths
 mod Remade
 mod After
 mod Idle
-mod Summed
+mod Exchanged
 mod Loosened
 mod Admitted
 mod GivenSorts

@@ -29,7 +29,7 @@ use Rattle.fvn_combine_loose.proofs.Setting.{Setting, noted, entry, argument_wit
 use Rattle.fvn_combine_loose.proofs.Remade.{remade, remade_same, remade_low, remade_over}
 use Rattle.fvn_combine_loose.proofs.After.{remade_kinded}
 use Rattle.fvn_combine_loose.proofs.Idle.{idle_value}
-use Rattle.fvn_combine_loose.proofs.Summed.{over_sum}
+use Rattle.fvn_combine_loose.proofs.Exchanged.{over_sum}
 
 module _ {d : Declarations} {problem : Problem} {t : NodeTable} {s : State} {z : ℕ} {heights : List ℕ} {u : Substitution} (g : Setting d problem t s z heights u) where
   abbrev height : ℕ → ℕ

@@ -17,7 +17,7 @@ use Rattle.fvn_combine_loose.specs.Loose.{height_of, IsIdle, AreMadeAlike, IsHea
 use Rattle.fvn_combine_loose.proofs.Mapped.{equal_is, mapped_among}
 use Rattle.fvn_combine_loose.proofs.Setting.{Setting, noted, entry, same_entry, class_within, class_again, one_value, same_height, argument_within, head_raised, argument_at}
 use Rattle.fvn_combine_loose.proofs.NewVariable.{new, not_in_old}
-use Rattle.fvn_combine_loose.proofs.Summing.{Sum, same_sum}
+use Rattle.fvn_combine_loose.proofs.Splitting.{Sum, same_sum}
 use Rattle.fvn_combine_loose.proofs.Worths.{worth, worth_low, worth_bottom, worth_headed, IsSummed, worth_summed}
 
 -- two numbers are one or not

@@ -16,7 +16,7 @@ use Rattle.fvn_combine_loose.proofs.Mapped.{map_agree}
 use Rattle.fvn_combine_loose.proofs.Setting.{Setting, noted, entry, class_again, same_height, same_entry, argument_within, argument_at}
 use Rattle.fvn_combine_loose.proofs.NewVariable.{new}
 use Rattle.fvn_combine_loose.proofs.Rests.{Splits}
-use Rattle.fvn_combine_loose.proofs.Summing.{Sum, old, sum_stands, sum_splits}
+use Rattle.fvn_combine_loose.proofs.Splitting.{Sum, old, sum_stands, sum_splits}
 
 -- a number that none of these is above
 abbrev top : List ℕ → ℕ

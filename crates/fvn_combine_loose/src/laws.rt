@@ -3,8 +3,8 @@ ghost use Rattle.fvn_combine_loose.specs.Laws.{LooseClassesPart, LooseClassesAre
 
 use fvn_combine_inferring::sorted_unifiers_go_with;
 
-/// Where for each of some pairs a loose class stands in one of its two classes alone, each unifier of the state has a more
-/// general one under which the two classes of each pair are apart.
+/// Where for each of some pairs a loose class stands in one of its two classes alone, each unifier of the state, which keeps
+/// sorts where these are heeded, has a more general one under which the two classes of each pair are apart.
 pub fn loose_classes_part()
     ensures { LooseClassesPart }
 {

@@ -16,7 +16,7 @@ use Rattle.fvn_combine_nodes.proofs.Subterms.{node_kinded}
 use Rattle.fvn_combine_loose.specs.Loose.{Bears, IsBearing}
 use Rattle.fvn_combine_loose.proofs.Rests.{often, often_two, same_summands}
 use Rattle.fvn_combine_loose.proofs.Setting.{Setting, argument_within}
-use Rattle.fvn_combine_loose.proofs.Summing.{borne, bearer_listed, other_listed, often_over, Sum, old, old_over, one_often}
+use Rattle.fvn_combine_loose.proofs.Splitting.{borne, bearer_listed, other_listed, often_over, Sum, old, old_over, one_often}
 use Rattle.fvn_combine_loose.proofs.Remade.{remade, remade_same, remade_low, remade_summed}
 use Rattle.fvn_combine_loose.proofs.After.{remade_kinded}
 use Rattle.fvn_combine_loose.proofs.Idle.{over_kinded}
