@@ -21,8 +21,8 @@ pub record IsLoosened (d : Declarations) (problem : Problem) (t : NodeTable) (s 
   pub more_general : IsMoreGeneral d (variables_of problem) u v
   pub admits : Admits s (kernel d v t.nodes)
 
--- where for each of these pairs a loose class stands in one of its two classes alone, each unifier of the state has a more general one
--- under which the two classes of each pair are apart
+-- where for each of these pairs a loose class stands in one of its two classes alone, each unifier of the state, which keeps sorts where
+-- these are heeded, has a more general one under which the two classes of each pair are apart
 abbrev pub LooseClassesPart : Type 0
 LooseClassesPart =
     (d : Declarations) → IsGood d → (problem : Problem) → IsProblem d problem → (t : NodeTable) → IsWellMade t → IsTableOf d problem t

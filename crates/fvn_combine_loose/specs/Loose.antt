@@ -57,7 +57,7 @@ pub record IsIdle (t : NodeTable) (s : State) (i : ℕ) (f : OpId) (ks : List �
   pub classes : AreOf (class_of s) ks (class_of s i) (class_of s identity)
 
 module _ (s : State) (heights : List ℕ) (sums : List (Option (OpId × ℕ))) where
-  -- the class of node k is noted as a sum of f in which the loose class stands in one summand alone: the value of node p's class
+  -- the class of node k is noted as a sum of f over node p: of the value of p's class and of what the loose class does not stand in
   abbrev pub IsSumOver : OpId → ℕ → ℕ → Type 0
   IsSumOver f p k = slice_index_or sums (class_of s k) None ≡ Some (f, p)
 
@@ -92,7 +92,8 @@ module _ (d : Declarations) (t : NodeTable) (s : State) (sorted : Bool) where
   HaveSort i q = (j : ℕ) (f : OpId) (ks : List ℕ) → IsOver t.nodes j f ks → class_of s i ≡ class_of s j → IsIdle t s j f ks ⊎ HasSort d (term_at t.nodes j) q
 
   module _ (z : ℕ) (heights : List ℕ) (sums : List (Option (OpId × ℕ))) where
-    -- The class of node k is a sum of f over p: operators head it, or whatever values go with the state, its value holds that of p's class.
+    -- The class of node k is a sum of f over p, which is lower and in which the loose class stands: operators head it, or whatever values go
+    -- with the state, its value holds the summands of that of p's class.
     pub record IsSum (f : OpId) (p k : ℕ) : Type 0 where
       pub associative : IsAssociative (axioms d f)
       pub part : p < length t.nodes
