@@ -191,8 +191,8 @@ general A0 A1 h = A2 A3 h; A0 A4 i = A2 A5 i => few | 3 20
 // sum below the topmost is one of its summands, and so is one of the other side's variable, which takes it as it is. So nothing is
 // asked of what makes it. Eight and twelve levels. All numbers of unifiers are Maude's.
 const SUMS_IN_TURN: &str =
-    "general A0 j k A1 h A2 h A3 k j k A4 h A5 h A6 k j k A7 h A8 h A9 k j k Aa h Ab h Ac k = Ad j k Ae h => few | 0 0
-general A0 j k A1 h A2 h A3 k j k A4 h A5 h A6 k j k A7 h A8 h A9 k j k Aa h Ab h Ac k j k Ad h Ae h Af k j k Ag h Ah h Ai k = Aj j k Ak h => few | 0 0
+    "general A0 j k A1 h A2 h A3 k j k A4 h A5 h A6 k j k A7 h A8 h A9 k j k Aa h Ab h Ac k = Ad j k Ae h => few | 3 3
+general A0 j k A1 h A2 h A3 k j k A4 h A5 h A6 k j k A7 h A8 h A9 k j k Aa h Ab h Ac k j k Ad h Ae h Af k j k Ag h Ah h Ai k = Aj j k Ak h => few | 3 3
 100 200 A0 j k A1 h A2 h A3 k j k A4 h A5 h A6 k j k A7 h A8 h A9 k j k Aa h Ab h Ac k = Ad j k Ae h => complete 3
 100 200 A0 j k A1 h A2 h A3 k j k A4 h A5 h A6 k j k A7 h A8 h A9 k j k Aa h Ab h Ac k j k Ad h Ae h Af k j k Ag h Ah h Ai k = Aj j k Ak h => complete 3";
 
