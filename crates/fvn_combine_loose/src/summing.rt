@@ -181,7 +181,7 @@ fn is_adding(
         draft.now.heights.items draft.now.sums.items sum.0 sum.1 i }
 {
     let _sig = sig;
-    let _ground = facts;
+    let _facts = facts;
     let heights = draft.heights.as_slice();
     let sums = draft.sums.as_slice();
     table.recall_well_made();
@@ -211,7 +211,7 @@ fn is_part(
     ensures { IsTrue result → IsPart sig.now table.now state.now facts.now.sorted
         draft.now.heights.items draft.now.sums.items sum.0 sum.1 i }
 {
-    let _ground = facts;
+    let _facts = facts;
     if !sig.axioms(sum.0).is_sum() {
         return false;
     }
@@ -239,7 +239,7 @@ fn heads_class(
     ensures { IsTrue result → IsHeaded sig.now table.now state.now facts.now.sorted i }
 {
     let _sig = sig;
-    let _ground = facts;
+    let _facts = facts;
     table.recall_well_made();
     if m >= table.nodes().len() {
         return false;
@@ -284,7 +284,7 @@ fn is_held_by(
 {
     let _sig = sig;
     let _table = table;
-    let _ground = facts;
+    let _facts = facts;
     if held.0 != sum.0 {
         return false;
     }
