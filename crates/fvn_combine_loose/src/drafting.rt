@@ -3,7 +3,7 @@ ghost use Rattle.std.specs.Prelude.{◌≡◌, ◌<◌, length, All};
 
 use crate::checking::{head_at, height_at, highest, is_idle, is_marked};
 use crate::guessing::{bar, set_height, unbarred};
-use crate::summing::{Draft, Ground, sum_at};
+use crate::summing::{Draft, Facts, sum_at};
 use fvn_combine_nodes::{Node, State, Table};
 use fvn_signature::Signature;
 use fvn_terms::{NoMemory, OpId};
@@ -110,8 +110,8 @@ fn add_over(state: &State, draft: &mut Draft, class: usize, f: OpId, k: usize) -
 }
 
 // Whether the class has, for sure, the summands of the part.
-fn is_said(state: &State, ground: &Ground<'_>, sum: (OpId, usize), class: usize) -> bool {
-    for held in ground.held {
+fn is_said(state: &State, facts: &Facts<'_>, sum: (OpId, usize), class: usize) -> bool {
+    for held in facts.held {
         if held.0 != sum.0 {
             continue;
         }
@@ -126,14 +126,14 @@ fn is_said(state: &State, ground: &Ground<'_>, sum: (OpId, usize), class: usize)
 }
 
 // Notes the sum of the class of node k, where nothing heads it and it has the summands of the part.
-fn fill(state: &State, ground: &Ground<'_>, draft: &mut Draft, sum: (OpId, usize), k: usize) -> Step
+fn fill(state: &State, facts: &Facts<'_>, draft: &mut Draft, sum: (OpId, usize), k: usize) -> Step
     requires { k < length state.now.names }
 {
-    if head_at(state, ground.heads, k).is_some() {
+    if head_at(state, facts.heads, k).is_some() {
         return Step::Fails;
     }
     let class = state.class_of(k);
-    if !is_said(state, ground, sum, class) {
+    if !is_said(state, facts, sum, class) {
         return Step::Fails;
     }
     let height = height_of_class(draft.heights.as_slice(), sum.1).saturating_add(1);
@@ -143,7 +143,7 @@ fn fill(state: &State, ground: &Ground<'_>, draft: &mut Draft, sum: (OpId, usize
 // What node i says, where it adds nodes in which nothing stands so far.
 fn step_below(
     state: &State,
-    ground: &Ground<'_>,
+    facts: &Facts<'_>,
     draft: &mut Draft,
     i: usize,
     f: OpId,
@@ -162,8 +162,8 @@ fn step_below(
             if sum.0 != f {
                 return Step::Fails;
             }
-            match fill(state, ground, draft, sum, ks.0) {
-                Step::Fails => fill(state, ground, draft, sum, ks.1),
+            match fill(state, facts, draft, sum, ks.0) {
+                Step::Fails => fill(state, facts, draft, sum, ks.1),
                 step => step,
             }
         }
@@ -173,7 +173,7 @@ fn step_below(
 // What node i says, where it adds two nodes by f.
 fn step_by_sum(
     state: &State,
-    ground: &Ground<'_>,
+    facts: &Facts<'_>,
     draft: &mut Draft,
     i: usize,
     f: OpId,
@@ -188,7 +188,7 @@ fn step_by_sum(
     let right = height_at(state, draft.heights.as_slice(), ks.1);
     if left == 0 {
         if right == 0 {
-            return step_below(state, ground, draft, i, f, ks);
+            return step_below(state, facts, draft, i, f, ks);
         }
         return add_over(state, draft, class, f, ks.1);
     }
@@ -218,7 +218,7 @@ fn step_by(
     sig: &Signature,
     table: &Table,
     state: &State,
-    ground: &Ground<'_>,
+    facts: &Facts<'_>,
     draft: &mut Draft,
     i: usize,
 ) -> Step
@@ -242,24 +242,18 @@ fn step_by(
             if list.len() != 2 {
                 return Step::Fails;
             }
-            step_by_sum(state, ground, draft, i, *f, (list[0], list[1]))
+            step_by_sum(state, facts, draft, i, *f, (list[0], list[1]))
         }
     }
 }
 
 // What the nodes say, one after another.
-fn turn(
-    sig: &Signature,
-    table: &Table,
-    state: &State,
-    ground: &Ground<'_>,
-    draft: &mut Draft,
-) -> Step
+fn turn(sig: &Signature, table: &Table, state: &State, facts: &Facts<'_>, draft: &mut Draft) -> Step
     requires { length state.now.names ≡ length table.now.nodes }
 {
     let mut step = Step::Stays;
     for i in 0..table.nodes().len() {
-        match step_by(sig, table, state, ground, draft, i) {
+        match step_by(sig, table, state, facts, draft, i) {
             Step::Fails => {
                 return Step::Fails;
             }
@@ -301,14 +295,14 @@ pub(crate) fn draft_above(
     sig: &Signature,
     table: &Table,
     state: &State,
-    ground: &Ground<'_>,
+    facts: &Facts<'_>,
     z: usize,
 ) -> Result<Option<Draft>, NoMemory>
     requires { length state.now.names ≡ length table.now.nodes }
 {
     let mut draft = first_draft(alloc, table.nodes().len(), z)?;
     for _turn in 0..TURNS {
-        match turn(sig, table, state, ground, &mut draft) {
+        match turn(sig, table, state, facts, &mut draft) {
             Step::Fails => {
                 return Ok(None);
             }

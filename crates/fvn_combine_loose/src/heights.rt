@@ -3,14 +3,14 @@ ghost use Rattle.std.specs.Prelude.{◌≡◌, ◌<◌, length, All, IfOk, IfSom
 ghost use Rattle.fvn_combine_nodes.specs.States.{IsClosed};
 ghost use Rattle.fvn_combine_inferring.specs.Rows.{IsHeld};
 ghost use Rattle.fvn_combine_loose.specs.Loose.{IsLooseClass, AreHeights};
-ghost use Rattle.fvn_combine_loose.specs.inner.Checks.{AreFine, IsLooseBy, IsGround};
+ghost use Rattle.fvn_combine_loose.specs.inner.Checks.{AreFine, IsLooseBy, AreFacts};
 ghost use Rattle.fvn_combine_loose.specs.inner.NodeSorts.{HaveSorts};
 
 use crate::checking::{fine_nodes, head_at, is_loose, kept_nodes};
 use crate::drafting::draft_above;
 use crate::guessing::{Ways, has_candidate, has_sum, heights_above, may_be_loose, ways_of};
 use crate::sorts::node_sorts;
-use crate::summing::{Ground, is_loose_by_sums};
+use crate::summing::{Facts, is_loose_by_sums};
 use fvn_base::Seq;
 use fvn_combine_nodes::{State, Table};
 use fvn_signature::Signature;
@@ -51,24 +51,24 @@ fn heights_by_sums(
     sig: &Signature,
     table: &Table,
     state: &State,
-    ground: &Ground<'_>,
+    facts: &Facts<'_>,
     z: usize,
 ) -> Result<Option<Seq<usize>>, NoMemory>
     requires closed { IsClosed sig.now table.now state.now }
-    requires sorts { HaveSorts sig.now table.now.nodes ground.now.sorts.now }
-    requires ground { IsGround sig.now table.now state.now ground.now.sorted
-        ground.now.fine.now ground.now.kept.now ground.now.held.now }
+    requires sorts { HaveSorts sig.now table.now.nodes facts.now.sorts.now }
+    requires facts { AreFacts sig.now table.now state.now facts.now.sorted
+        facts.now.fine.now facts.now.kept.now facts.now.held.now }
     requires within { z < length table.now.nodes }
     ensures { IfOk result (λ o. IfSome o (λ h.
-        AreHeights sig.now table.now state.now ground.now.sorted h)) }
+        AreHeights sig.now table.now state.now facts.now.sorted h)) }
 {
     if state.class_of(z) != z {
         return Ok(None);
     }
-    if head_at(state, ground.heads, z).is_some() {
+    if head_at(state, facts.heads, z).is_some() {
         return Ok(None);
     }
-    let Some(draft) = draft_above(alloc, sig, table, state, ground, z)? else {
+    let Some(draft) = draft_above(alloc, sig, table, state, facts, z)? else {
         return Ok(None);
     };
     if draft.bottom >= table.nodes().len() {
@@ -77,7 +77,7 @@ fn heights_by_sums(
     if draft.heights.len() != table.nodes().len() {
         return Ok(None);
     }
-    if is_loose_by_sums(sig, table, state, ground, &draft) {
+    if is_loose_by_sums(sig, table, state, facts, &draft) {
         return Ok(Some(Seq::from_vec(draft.heights)));
     }
     Ok(None)
@@ -90,21 +90,21 @@ fn heights_at(
     table: &Table,
     state: &State,
     ways: &Ways,
-    ground: &Ground<'_>,
+    facts: &Facts<'_>,
     z: usize,
 ) -> Result<Option<Seq<usize>>, NoMemory>
     requires closed { IsClosed sig.now table.now state.now }
-    requires sorts { HaveSorts sig.now table.now.nodes ground.now.sorts.now }
-    requires ground { IsGround sig.now table.now state.now ground.now.sorted
-        ground.now.fine.now ground.now.kept.now ground.now.held.now }
+    requires sorts { HaveSorts sig.now table.now.nodes facts.now.sorts.now }
+    requires facts { AreFacts sig.now table.now state.now facts.now.sorted
+        facts.now.fine.now facts.now.kept.now facts.now.held.now }
     requires within { z < length table.now.nodes }
     ensures { IfOk result (λ o. IfSome o (λ h.
-        AreHeights sig.now table.now state.now ground.now.sorted h)) }
+        AreHeights sig.now table.now state.now facts.now.sorted h)) }
 {
-    let found = heights_from(alloc, sig, table, state, ways, ground.fine, z)?;
+    let found = heights_from(alloc, sig, table, state, ways, facts.fine, z)?;
     match found {
         Some(heights) => Ok(Some(heights)),
-        None => heights_by_sums(alloc, sig, table, state, ground, z),
+        None => heights_by_sums(alloc, sig, table, state, facts, z),
     }
 }
 
@@ -115,18 +115,18 @@ fn all_heights(
     table: &Table,
     state: &State,
     ways: &Ways,
-    ground: &Ground<'_>,
+    facts: &Facts<'_>,
 ) -> Result<Vec<Seq<usize>>, NoMemory>
     requires closed { IsClosed sig.now table.now state.now }
-    requires sorts { HaveSorts sig.now table.now.nodes ground.now.sorts.now }
-    requires ground { IsGround sig.now table.now state.now ground.now.sorted
-        ground.now.fine.now ground.now.kept.now ground.now.held.now }
+    requires sorts { HaveSorts sig.now table.now.nodes facts.now.sorts.now }
+    requires facts { AreFacts sig.now table.now state.now facts.now.sorted
+        facts.now.fine.now facts.now.kept.now facts.now.held.now }
     ensures { IfOk result (λ all.
-        All (λ h. AreHeights sig.now table.now state.now ground.now.sorted h) all.items) }
+        All (λ h. AreHeights sig.now table.now state.now facts.now.sorted h) all.items) }
 {
     let mut all = Vec::new(alloc);
     for z in 0..table.nodes().len() {
-        let found = heights_at(alloc, sig, table, state, ways, ground, z)?;
+        let found = heights_at(alloc, sig, table, state, ways, facts, z)?;
         match found {
             None => {}
             Some(heights) => {
@@ -156,7 +156,7 @@ fn find_heights(
     let heads = ways.heads.as_slice();
     let fine = fine_nodes(alloc, sig, table, state, sorts.as_slice(), heads)?;
     let kept = kept_nodes(alloc, sig, table, state, sorts.as_slice())?;
-    let ground = Ground {
+    let facts = Facts {
         sorted,
         sorts: sorts.as_slice(),
         heads,
@@ -164,7 +164,7 @@ fn find_heights(
         kept: kept.as_slice(),
         held,
     };
-    let all = all_heights(alloc, sig, table, state, ways, &ground)?;
+    let all = all_heights(alloc, sig, table, state, ways, &facts)?;
     Ok(all)
 }
 

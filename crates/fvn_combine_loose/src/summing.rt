@@ -14,7 +14,7 @@ ghost use Rattle.fvn_combine_loose.specs.inner.Checks.{
   IsPart,
   IsAdded,
   IsPut,
-  IsGround,
+  AreFacts,
   IsMarked,
 };
 ghost use Rattle.fvn_combine_loose.specs.inner.NodeSorts.{HaveSorts};
@@ -29,7 +29,7 @@ use fvn_terms::{OpId, SortId};
 
 /// What is known of a state's nodes before its classes are looked at one by one.
 #[derive(Clone, Copy)]
-pub(crate) struct Ground<'a> {
+pub(crate) struct Facts<'a> {
     /// Whether the sorts of variables are heeded.
     pub(crate) sorted: bool,
     /// A sort of each node, where one is known.
@@ -169,7 +169,7 @@ fn is_adding(
     sig: &Signature,
     table: &Table,
     state: &State,
-    ground: &Ground<'_>,
+    facts: &Facts<'_>,
     draft: &Draft,
     sum: (OpId, usize),
     i: usize,
@@ -177,11 +177,11 @@ fn is_adding(
     requires whole { length state.now.names ≡ length table.now.nodes }
     requires part { sum.1 < length table.now.nodes }
     requires within { i < length table.now.nodes }
-    ensures { IsTrue result → IsAdding sig.now table.now state.now ground.now.sorted
+    ensures { IsTrue result → IsAdding sig.now table.now state.now facts.now.sorted
         draft.now.heights.items draft.now.sums.items sum.0 sum.1 i }
 {
     let _sig = sig;
-    let _ground = ground;
+    let _facts = facts;
     let heights = draft.heights.as_slice();
     let sums = draft.sums.as_slice();
     table.recall_well_made();
@@ -201,17 +201,17 @@ fn is_part(
     sig: &Signature,
     table: &Table,
     state: &State,
-    ground: &Ground<'_>,
+    facts: &Facts<'_>,
     draft: &Draft,
     sum: (OpId, usize),
     i: usize,
 ) -> bool
     requires whole { length state.now.names ≡ length table.now.nodes }
     requires within { i < length table.now.nodes }
-    ensures { IsTrue result → IsPart sig.now table.now state.now ground.now.sorted
+    ensures { IsTrue result → IsPart sig.now table.now state.now facts.now.sorted
         draft.now.heights.items draft.now.sums.items sum.0 sum.1 i }
 {
-    let _ground = ground;
+    let _facts = facts;
     if !sig.axioms(sum.0).is_sum() {
         return false;
     }
@@ -230,16 +230,16 @@ fn heads_class(
     sig: &Signature,
     table: &Table,
     state: &State,
-    ground: &Ground<'_>,
+    facts: &Facts<'_>,
     m: usize,
     i: usize,
 ) -> bool
     requires whole { length state.now.names ≡ length table.now.nodes }
     requires within { i < length table.now.nodes }
-    ensures { IsTrue result → IsHeaded sig.now table.now state.now ground.now.sorted i }
+    ensures { IsTrue result → IsHeaded sig.now table.now state.now facts.now.sorted i }
 {
     let _sig = sig;
-    let _ground = ground;
+    let _facts = facts;
     table.recall_well_made();
     if m >= table.nodes().len() {
         return false;
@@ -254,14 +254,14 @@ fn heads_class(
 }
 
 // Whether an operator is known to head the class of node i.
-fn is_headed(sig: &Signature, table: &Table, state: &State, ground: &Ground<'_>, i: usize) -> bool
+fn is_headed(sig: &Signature, table: &Table, state: &State, facts: &Facts<'_>, i: usize) -> bool
     requires whole { length state.now.names ≡ length table.now.nodes }
     requires within { i < length table.now.nodes }
-    ensures { IsTrue result → IsHeaded sig.now table.now state.now ground.now.sorted i }
+    ensures { IsTrue result → IsHeaded sig.now table.now state.now facts.now.sorted i }
 {
-    match head_at(state, ground.heads, i) {
+    match head_at(state, facts.heads, i) {
         None => false,
-        Some(m) => heads_class(sig, table, state, ground, m, i),
+        Some(m) => heads_class(sig, table, state, facts, m, i),
     }
 }
 
@@ -270,21 +270,21 @@ fn is_held_by(
     sig: &Signature,
     table: &Table,
     state: &State,
-    ground: &Ground<'_>,
+    facts: &Facts<'_>,
     held: (OpId, usize, usize),
     sum: (OpId, usize),
     i: usize,
 ) -> bool
     requires whole { length state.now.names ≡ length table.now.nodes }
-    requires held { IsHeld sig.now table.now state.now ground.now.sorted held }
+    requires held { IsHeld sig.now table.now state.now facts.now.sorted held }
     requires part { sum.1 < length table.now.nodes }
     requires within { i < length table.now.nodes }
     ensures { IsTrue result
-        → HoldsSummands sig.now table.now state.now ground.now.sorted sum.0 sum.1 i }
+        → HoldsSummands sig.now table.now state.now facts.now.sorted sum.0 sum.1 i }
 {
     let _sig = sig;
     let _table = table;
-    let _ground = ground;
+    let _facts = facts;
     if held.0 != sum.0 {
         return false;
     }
@@ -299,19 +299,19 @@ fn is_held(
     sig: &Signature,
     table: &Table,
     state: &State,
-    ground: &Ground<'_>,
+    facts: &Facts<'_>,
     sum: (OpId, usize),
     i: usize,
 ) -> bool
     requires whole { length state.now.names ≡ length table.now.nodes }
-    requires held { All (IsHeld sig.now table.now state.now ground.now.sorted) ground.now.held.now }
+    requires held { All (IsHeld sig.now table.now state.now facts.now.sorted) facts.now.held.now }
     requires part { sum.1 < length table.now.nodes }
     requires within { i < length table.now.nodes }
     ensures { IsTrue result
-        → HoldsSummands sig.now table.now state.now ground.now.sorted sum.0 sum.1 i }
+        → HoldsSummands sig.now table.now state.now facts.now.sorted sum.0 sum.1 i }
 {
-    for held in ground.held {
-        if is_held_by(sig, table, state, ground, *held, sum, i) {
+    for held in facts.held {
+        if is_held_by(sig, table, state, facts, *held, sum, i) {
             return true;
         }
     }
@@ -323,24 +323,24 @@ fn takes_sums(
     sig: &Signature,
     table: &Table,
     state: &State,
-    ground: &Ground<'_>,
+    facts: &Facts<'_>,
     sum: (OpId, usize),
     sort: SortId,
 ) -> bool
     requires whole { length state.now.names ≡ length table.now.nodes }
-    requires sorts { HaveSorts sig.now table.now.nodes ground.now.sorts.now }
+    requires sorts { HaveSorts sig.now table.now.nodes facts.now.sorts.now }
     requires associative { IsAssociative (axioms sig.now sum.0) }
     requires part { sum.1 < length table.now.nodes }
     ensures { IsTrue result
-        → TakesSums sig.now table.now state.now ground.now.sorted sum.0 sum.1 sort }
+        → TakesSums sig.now table.now state.now facts.now.sorted sum.0 sum.1 sort }
 {
-    if !is_headed(sig, table, state, ground, sum.1) {
+    if !is_headed(sig, table, state, facts, sum.1) {
         return false;
     }
     if !is_sum_sort(sig, sum.0, sort) {
         return false;
     }
-    are_of_sort(sig, table, state, ground.sorts, sum.1, sort)
+    are_of_sort(sig, table, state, facts.sorts, sum.1, sort)
 }
 
 // Whether node i is no variable, or one of such a sort.
@@ -348,20 +348,20 @@ fn variable_takes_sums(
     sig: &Signature,
     table: &Table,
     state: &State,
-    ground: &Ground<'_>,
+    facts: &Facts<'_>,
     sum: (OpId, usize),
     i: usize,
 ) -> bool
     requires whole { length state.now.names ≡ length table.now.nodes }
-    requires sorts { HaveSorts sig.now table.now.nodes ground.now.sorts.now }
+    requires sorts { HaveSorts sig.now table.now.nodes facts.now.sorts.now }
     requires associative { IsAssociative (axioms sig.now sum.0) }
     requires part { sum.1 < length table.now.nodes }
     requires within { i < length table.now.nodes }
     ensures { IsTrue result
-        → VariableTakesSums sig.now table.now state.now ground.now.sorted sum.0 sum.1 i }
+        → VariableTakesSums sig.now table.now state.now facts.now.sorted sum.0 sum.1 i }
 {
     match table.node(i) {
-        Node::Var(x) => takes_sums(sig, table, state, ground, sum, x.sort),
+        Node::Var(x) => takes_sums(sig, table, state, facts, sum, x.sort),
         Node::App(_, _) => true,
     }
 }
@@ -371,26 +371,26 @@ fn is_filled(
     sig: &Signature,
     table: &Table,
     state: &State,
-    ground: &Ground<'_>,
+    facts: &Facts<'_>,
     sum: (OpId, usize),
     i: usize,
 ) -> bool
     requires whole { length state.now.names ≡ length table.now.nodes }
-    requires sorts { HaveSorts sig.now table.now.nodes ground.now.sorts.now }
-    requires held { All (IsHeld sig.now table.now state.now ground.now.sorted) ground.now.held.now }
+    requires sorts { HaveSorts sig.now table.now.nodes facts.now.sorts.now }
+    requires held { All (IsHeld sig.now table.now state.now facts.now.sorted) facts.now.held.now }
     requires associative { IsAssociative (axioms sig.now sum.0) }
     requires part { sum.1 < length table.now.nodes }
     requires within { i < length table.now.nodes }
     ensures { IsTrue result
-        → IsFilled sig.now table.now state.now ground.now.sorted sum.0 sum.1 i }
+        → IsFilled sig.now table.now state.now facts.now.sorted sum.0 sum.1 i }
 {
-    if is_headed(sig, table, state, ground, i) {
+    if is_headed(sig, table, state, facts, i) {
         return true;
     }
-    if !is_held(sig, table, state, ground, sum, i) {
+    if !is_held(sig, table, state, facts, sum, i) {
         return false;
     }
-    variable_takes_sums(sig, table, state, ground, sum, i)
+    variable_takes_sums(sig, table, state, facts, sum, i)
 }
 
 // Whether node i is what it must be where its class is noted as a sum.
@@ -398,29 +398,29 @@ fn is_added(
     sig: &Signature,
     table: &Table,
     state: &State,
-    ground: &Ground<'_>,
+    facts: &Facts<'_>,
     draft: &Draft,
     sum: (OpId, usize),
     i: usize,
 ) -> bool
     requires whole { length state.now.names ≡ length table.now.nodes }
-    requires sorts { HaveSorts sig.now table.now.nodes ground.now.sorts.now }
-    requires ground { IsGround sig.now table.now state.now ground.now.sorted
-        ground.now.fine.now ground.now.kept.now ground.now.held.now }
+    requires sorts { HaveSorts sig.now table.now.nodes facts.now.sorts.now }
+    requires facts { AreFacts sig.now table.now state.now facts.now.sorted
+        facts.now.fine.now facts.now.kept.now facts.now.held.now }
     requires within { i < length table.now.nodes }
-    ensures { IsTrue result → IsAdded sig.now table.now state.now ground.now.sorted
+    ensures { IsTrue result → IsAdded sig.now table.now state.now facts.now.sorted
         draft.now.heights.items draft.now.sums.items sum.0 sum.1 i }
 {
-    if !is_part(sig, table, state, ground, draft, sum, i) {
+    if !is_part(sig, table, state, facts, draft, sum, i) {
         return false;
     }
-    if !is_adding(sig, table, state, ground, draft, sum, i) {
+    if !is_adding(sig, table, state, facts, draft, sum, i) {
         return false;
     }
-    if !is_marked(ground.kept, i) {
+    if !is_marked(facts.kept, i) {
         return false;
     }
-    is_filled(sig, table, state, ground, sum, i)
+    is_filled(sig, table, state, facts, sum, i)
 }
 
 // Whether the loose class does not stand in the class of node i, or the node is marked.
@@ -439,18 +439,18 @@ fn is_put(
     sig: &Signature,
     table: &Table,
     state: &State,
-    ground: &Ground<'_>,
+    facts: &Facts<'_>,
     draft: &Draft,
     i: usize,
 ) -> bool
     requires whole { length state.now.names ≡ length table.now.nodes }
-    requires sorts { HaveSorts sig.now table.now.nodes ground.now.sorts.now }
-    requires ground { IsGround sig.now table.now state.now ground.now.sorted
-        ground.now.fine.now ground.now.kept.now ground.now.held.now }
+    requires sorts { HaveSorts sig.now table.now.nodes facts.now.sorts.now }
+    requires facts { AreFacts sig.now table.now state.now facts.now.sorted
+        facts.now.fine.now facts.now.kept.now facts.now.held.now }
     requires bottom { draft.now.bottom < length table.now.nodes }
     requires within { i < length table.now.nodes }
-    ensures { IsTrue result → IsPut sig.now table.now state.now ground.now.sorted
-        draft.now.heights.items draft.now.sums.items ground.now.fine.now draft.now.bottom i }
+    ensures { IsTrue result → IsPut sig.now table.now state.now facts.now.sorted
+        draft.now.heights.items draft.now.sums.items facts.now.fine.now draft.now.bottom i }
 {
     let heights = draft.heights.as_slice();
     if !are_raised(table, state, heights, i) {
@@ -460,30 +460,24 @@ fn is_put(
         return is_open_node(table, state, i);
     }
     match sum_at(state, draft.sums.as_slice(), i) {
-        None => is_made(state, ground.fine, heights, i),
-        Some(sum) => is_added(sig, table, state, ground, draft, sum, i),
+        None => is_made(state, facts.fine, heights, i),
+        Some(sum) => is_added(sig, table, state, facts, draft, sum, i),
     }
 }
 
 // The same of all nodes.
-fn are_put(
-    sig: &Signature,
-    table: &Table,
-    state: &State,
-    ground: &Ground<'_>,
-    draft: &Draft,
-) -> bool
+fn are_put(sig: &Signature, table: &Table, state: &State, facts: &Facts<'_>, draft: &Draft) -> bool
     requires whole { length state.now.names ≡ length table.now.nodes }
-    requires sorts { HaveSorts sig.now table.now.nodes ground.now.sorts.now }
-    requires ground { IsGround sig.now table.now state.now ground.now.sorted
-        ground.now.fine.now ground.now.kept.now ground.now.held.now }
+    requires sorts { HaveSorts sig.now table.now.nodes facts.now.sorts.now }
+    requires facts { AreFacts sig.now table.now state.now facts.now.sorted
+        facts.now.fine.now facts.now.kept.now facts.now.held.now }
     requires bottom { draft.now.bottom < length table.now.nodes }
     ensures { IsTrue result → (i : ℕ) → i < length table.now.nodes
-        → IsPut sig.now table.now state.now ground.now.sorted draft.now.heights.items
-        draft.now.sums.items ground.now.fine.now draft.now.bottom i }
+        → IsPut sig.now table.now state.now facts.now.sorted draft.now.heights.items
+        draft.now.sums.items facts.now.fine.now draft.now.bottom i }
 {
     for i in 0..table.nodes().len() {
-        if !is_put(sig, table, state, ground, draft, i) {
+        if !is_put(sig, table, state, facts, draft, i) {
             return false;
         }
     }
@@ -495,15 +489,15 @@ pub(crate) fn is_loose_by_sums(
     sig: &Signature,
     table: &Table,
     state: &State,
-    ground: &Ground<'_>,
+    facts: &Facts<'_>,
     draft: &Draft,
 ) -> bool
     requires closed { IsClosed sig.now table.now state.now }
-    requires sorts { HaveSorts sig.now table.now.nodes ground.now.sorts.now }
-    requires ground { IsGround sig.now table.now state.now ground.now.sorted
-        ground.now.fine.now ground.now.kept.now ground.now.held.now }
+    requires sorts { HaveSorts sig.now table.now.nodes facts.now.sorts.now }
+    requires facts { AreFacts sig.now table.now state.now facts.now.sorted
+        facts.now.fine.now facts.now.kept.now facts.now.held.now }
     requires bottom { draft.now.bottom < length table.now.nodes }
-    ensures { IsTrue result → IsLoose sig.now table.now state.now ground.now.sorted
+    ensures { IsTrue result → IsLoose sig.now table.now state.now facts.now.sorted
         draft.now.bottom draft.now.heights.items draft.now.sums.items }
 {
     if height_at(state, draft.heights.as_slice(), draft.bottom) == 0 {
@@ -511,6 +505,6 @@ pub(crate) fn is_loose_by_sums(
     }
     match sum_at(state, draft.sums.as_slice(), draft.bottom) {
         Some(_) => false,
-        None => are_put(sig, table, state, ground, draft),
+        None => are_put(sig, table, state, facts, draft),
     }
 }

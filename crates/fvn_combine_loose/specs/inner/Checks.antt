@@ -143,7 +143,7 @@ module _ (d : Declarations) (t : NodeTable) (s : State) (sorted : Bool) where
 
   -- What is known of the nodes before the classes are looked at one by one: which nodes are fine, which are kept, sorts of nodes, and what
   -- classes hold whatever values go with the state.
-  pub record IsGround (fine kept : List Bool) (held : List (OpId × ℕ × ℕ)) : Type 0 where
+  pub record AreFacts (fine kept : List Bool) (held : List (OpId × ℕ × ℕ)) : Type 0 where
     pub fine_nodes : AreFine d t s fine
     pub kept_nodes : EachIsKept d t s kept
     pub holding : All (IsHeld d t s sorted) held

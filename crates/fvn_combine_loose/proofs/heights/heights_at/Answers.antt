@@ -8,4 +8,4 @@ pub returns-in-Some : goal.returns-in-Some
 returns-in-Some c =
     let h : IsLooseBy c.args.sig.now c.args.table.now c.args.state.now c.args.z c.in-Some.heights =
     subst (λ o. IfSome o (IsLooseBy c.args.sig.now c.args.table.now c.args.state.now c.args.z)) c.in-Some.is c.in_ok-found.ensures in
-    record { as_many = h.0; bottom = c.args.z; sums = []; loose = h.1 c.args.ground.now.sorted }
+    record { as_many = h.0; bottom = c.args.z; sums = []; loose = h.1 c.args.facts.now.sorted }

@@ -6,7 +6,7 @@ use Rattle.fvn_combine_loose.proofs.summing.are_put.Goals as goal
 
 pub loop-i-preserved : goal.loop-i-preserved
 loop-i-preserved c =
-    one_more (IsPut c.args.sig.now c.args.table.now c.args.state.now c.args.ground.now.sorted c.args.draft.now.heights.items c.args.draft.now.sums.items c.args.ground.now.fine.now c.args.draft.now.bottom)
+    one_more (IsPut c.args.sig.now c.args.table.now c.args.state.now c.args.facts.now.sorted c.args.draft.now.heights.items c.args.draft.now.sums.items c.args.facts.now.fine.now c.args.draft.now.bottom)
     c.loop-i.i c.loop-i.invariant (c.is_put.ensures c.if-not-is_put.false)
 
 pub returns : goal.returns

@@ -6,5 +6,5 @@ pub returns : goal.returns
 returns c t = record {
   sum_sort = c.is_sum_sort.ensures c.if-not-is_sum_sort.false;
   headed = c.is_headed.ensures c.if-not-is_headed.false;
-  sorts = sorts_of c.args.sig.now c.args.table.now c.args.state.now c.args.ground.now.sorted c.args.sum.1 c.args.sort (c.are_of_sort.ensures t);
+  sorts = sorts_of c.args.sig.now c.args.table.now c.args.state.now c.args.facts.now.sorted c.args.sum.1 c.args.sort (c.are_of_sort.ensures t);
 }
