@@ -20,6 +20,24 @@ use fvn_signature::Signature;
 use fvn_terms::{NoMemory, OpId};
 use std::alloc::Global;
 
+// Whether no operator is noted as what heads class k.
+fn is_headless(known: &Known, k: usize) -> bool {
+    match known.heads.as_slice().get(k) {
+        None => false,
+        Some(head) => head.is_none(),
+    }
+}
+
+// Whether this is so of a class of the list: nobody asks what the others hold.
+fn has_headless(known: &Known, list: &[usize]) -> bool {
+    for k in list {
+        if is_headless(known, *k) {
+            return true;
+        }
+    }
+    false
+}
+
 // The class that is the whole list.
 fn alone_in(list: &[usize]) -> Option<usize>
     ensures { IfSome result (λ l. list.now ≡ l ∷ []) }
@@ -112,6 +130,9 @@ fn note_wholes(
     ensures { OnOk result (All (IsHeld sig.now table.now state.now known.now.sorted)
         held.new.items) }
 {
+    if !has_headless(known, second) {
+        return Ok(());
+    }
     for k in first {
         let Some(l) = whole_of(sig, table, state, known, addition, *k, second) else {
             continue;
@@ -224,6 +245,9 @@ pub fn held_parts(
     table.recall_well_made();
     let mut held = Vec::new(alloc);
     for sums in reading.sums.as_slice() {
+        if !has_headless(known, sums.columns.as_slice()) {
+            continue;
+        }
         note_sums(&mut held, alloc, sig, table, state, known, sums.operator)?;
     }
     Ok(held)

@@ -62,6 +62,9 @@ fn heights_by_sums(
     ensures { IfOk result (λ o. IfSome o (λ h.
         AreHeights sig.now table.now state.now facts.now.sorted h)) }
 {
+    if facts.held.is_empty() {
+        return Ok(None);
+    }
     if state.class_of(z) != z {
         return Ok(None);
     }
