@@ -2,8 +2,8 @@
 use Rattle.std.proofs.Common.{◌≡◌, ◌⊎◌, ℕ, zero, suc, ◌+◌, ◌<◌, List, [], ◌∷◌, ◌++◌, length, take, get_or, Some, None, refl, sym, ap, ◌∙◌, subst, inl, inr, arith, All, Contains}
 use Rattle.std.specs.Prelude.{◌↔◌}
 use Rattle.std.specs.List.{remove}
-use Rattle.std.proofs.lemmas.List.{take_more, take_all}
-use Rattle.std.proofs.lemmas.List.Elements.{Contains-append_left, Contains-push, Contains-push_cases}
+use Rattle.std.proofs.lemmas.List.{take_more}
+use Rattle.std.proofs.lemmas.List.Elements.{All-push, Contains-append_left, Contains-push, Contains-push_cases}
 use Rattle.fvn_base.proofs.Membership.{contains_none}
 use Rattle.fvn_terms.specs.declared.plain.Var.{Var}
 use Rattle.fvn_terms.specs.Substitution.{Occurs}
@@ -130,3 +130,15 @@ nowhere_back bindings notes x h nowhere k w l m =
     let n = notes_length bindings notes h in
     let within : k < length bindings = omega (arith, n, l) in
     nowhere k (x, fvar x) within ((note_at bindings notes k (x, fvar x) w h within x).0 m)
+
+-- where one list has it, not in none
+pub listed_at : (notes : List (List Var)) (i : ℕ) (w vars : List Var) (x : Var) → i < length notes → w ≡ get_or notes i w → vars ≡ w → Contains vars x → All (λ w. Contains w x → ⊥) notes → ⊥
+listed_at notes i w vars x within is e m none = none i w within (subst (λ v. Contains v x) (e ∙ is) m)
+
+-- in none, and not in one more
+pub none_more : (notes : List (List Var)) (i : ℕ) (w vars : List Var) (x : Var) → i < length notes → w ≡ get_or notes i w → vars ≡ w → (Contains vars x → ⊥) → All (λ w. Contains w x → ⊥) (take i notes) → All (λ w. Contains w x → ⊥) (take (i + 1) notes)
+none_more notes i w vars x within is e no none = subst (All (λ (w : List Var). Contains w x → ⊥)) (sym (take_more notes i w within ∙ ap (λ v. take i notes ++ v ∷ []) (sym is))) (All-push (λ (w : List Var). Contains w x → ⊥) (take i notes) w none (subst (λ v. Contains v x → ⊥) e no))
+
+-- in none at the end
+pub none_of_all : (notes : List (List Var)) (l : List (List Var)) (x : Var) → l ≡ notes → All (λ w. Contains w x → ⊥) l → All (λ w. Contains w x → ⊥) notes
+none_of_all notes l x e none = subst (All (λ (w : List Var). Contains w x → ⊥)) e none

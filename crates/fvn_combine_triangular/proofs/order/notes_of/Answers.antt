@@ -8,7 +8,7 @@ pub loop-t-init : goal.loop-t-init
 loop-t-init c = no_notes c.args.bindings.now c.in_ok-notes.notes.items c.in_ok-notes.ensures.items
 
 pub loop-t-preserved : goal.loop-t-preserved
-loop-t-preserved c = notes_more c.args.bindings.now c.loop-t.notes.items c.push.new.self.items c.loop-t.t-index c.t-item.result c.from_vec.result c.loop-t-test.true c.t-item.is c.in_ok-push.ensures.items c.loop-t.invariant c.in_ok-vars.ensures
+loop-t-preserved c = notes_more c.args.bindings.now c.loop-t.notes.items c.push.new.self.items c.loop-t.t-index c.loop-t-item.result c.from_vec.result c.loop-t-test.true c.loop-t-item.is c.in_ok-push.ensures.items c.loop-t.invariant c.in_ok-vars.ensures
 
 pub returns : goal.returns
 returns c = all_notes c.args.bindings.now c.loop-t.notes.items (take c.loop-t.t-index c.args.bindings.now) (take_all c.loop-t.t-index c.args.bindings.now c.loop-t-test.false) c.loop-t.invariant
