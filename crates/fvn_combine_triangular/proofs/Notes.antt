@@ -137,7 +137,7 @@ listed_at notes i w vars x within is e m none = none i w within (subst (λ v. Co
 
 -- in none, and not in one more
 pub none_more : (notes : List (List Var)) (i : ℕ) (w vars : List Var) (x : Var) → i < length notes → w ≡ get_or notes i w → vars ≡ w → (Contains vars x → ⊥) → All (λ w. Contains w x → ⊥) (take i notes) → All (λ w. Contains w x → ⊥) (take (i + 1) notes)
-none_more notes i w vars x within is e no none = subst (All (λ (w : List Var). Contains w x → ⊥)) (sym (take_more notes i w within ∙ ap (λ v. take i notes ++ v ∷ []) (sym is))) (All-push (λ (w : List Var). Contains w x → ⊥) (take i notes) w none (subst (λ v. Contains v x → ⊥) e no))
+none_more notes i w vars x within is e absent none = subst (All (λ (w : List Var). Contains w x → ⊥)) (sym (take_more notes i w within ∙ ap (λ v. take i notes ++ v ∷ []) (sym is))) (All-push (λ (w : List Var). Contains w x → ⊥) (take i notes) w none (subst (λ v. Contains v x → ⊥) e absent))
 
 -- in none at the end
 pub none_of_all : (notes : List (List Var)) (l : List (List Var)) (x : Var) → l ≡ notes → All (λ w. Contains w x → ⊥) l → All (λ w. Contains w x → ⊥) notes
