@@ -1,5 +1,5 @@
 -- The variables of one more argument.
-use Rattle.std.proofs.Common.{sym, ◌∙◌, subst, take, arith}
+use Rattle.std.proofs.Common.{sym, ◌∙◌, take, arith}
 use Rattle.std.proofs.lemmas.List.{take_all}
 use Rattle.fvn_flat.proofs.Smaller.{argument_is_smaller}
 use Rattle.fvn_combine_triangular.proofs.Notes.{listed_variable, none_listed, listed_more, listed_all}

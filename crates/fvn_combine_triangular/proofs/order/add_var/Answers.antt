@@ -1,5 +1,5 @@
 -- The variable is there, or put at the end.
-use Rattle.std.proofs.Common.{subst, sym}
+use Rattle.std.proofs.Common.{subst}
 use Rattle.std.specs.Prelude.{Contains}
 use Rattle.fvn_combine_triangular.proofs.Notes.{listed_already, listed_last}
 use Rattle.fvn_combine_triangular.proofs.order.add_var.Goals as goal
