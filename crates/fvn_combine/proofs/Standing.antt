@@ -39,16 +39,16 @@ module _ (k : Combining) (is : IsCombining k) where
   }
 
   -- nodes of each pair that a loose class parts are in two classes under a unifier that stands for the other
-  pub all_parted_admitted : LooseClassesPart → (s : State) → IsClosed k.declarations k.table s → (pairs : List (ℕ × ℕ)) → k.general ≡ true → All (λ p. AreParted k.declarations k.table s p.0 p.1) pairs
+  pub all_parted_admitted : LooseClassesPart → (s : State) → IsClosed k.declarations k.table s → (pairs : List (ℕ × ℕ)) → k.general ≡ true → All (λ p. AreParted k.declarations k.table s k.sorted p.0 p.1) pairs
       → (u : Substitution) → IsAdmittedBy k s u → HoldsFor k (λ v. Admits s (kernel k.declarations v k.table.nodes) × AreKeptApart pairs (kernel k.declarations v k.table.nodes)) u
   all_parted_admitted law s closed pairs enough own u h =
-      let p = law k.declarations is.good (problem_of k.given) is.is_given.kinds k.table is.well_made is.table_of s closed pairs own u h.0.unifies h.1 in
+      let p = law k.declarations is.good (problem_of k.given) is.is_given.kinds k.table is.well_made is.table_of s closed k.sorted pairs own u h.0.unifies h.1 h.0.keeps_sorts in
       (p.0, loosened_stands enough s u p.0 h.0 p.1, (p.1.admits, p.2))
 
   -- pairs that may be parted, of which there are some, are so
   pub parted_open : LooseClassesPart → (s : State) → IsClosed k.declarations k.table s → (pairs : List (ℕ × ℕ)) → 0 < length pairs → All (MayPartOpen k s) pairs → PartUnderSome k s pairs
   parted_open law s closed pairs some own =
-      let P = AreParted k.declarations k.table s in
+      let P = AreParted k.declarations k.table s k.sorted in
       let first : MayPartOpen k s (get_or pairs 0 (0, 0)) = own 0 (0, 0) some in
       let there : Contains pairs (get_or pairs 0 (0, 0)) = Contains-get_or pairs 0 (0, 0) some in
       record {
@@ -62,14 +62,14 @@ module _ (k : Combining) (is : IsCombining k) where
       → HoldsFor k (λ v. Admits s (kernel k.declarations v k.table.nodes) × (kernel k.declarations v k.table.nodes i ≢ kernel k.declarations v k.table.nodes j)) u
   parted_admitted law s closed i j may u h =
       let pairs : List (ℕ × ℕ) = (i, j) ∷ [] in
-      let P = AreParted k.declarations k.table s in
+      let P = AreParted k.declarations k.table s k.sorted in
       let p = all_parted_admitted law s closed pairs may.enough (All-cons (λ p. P p.0 p.1) (i, j) [] may.parted (All-nil (λ p. P p.0 p.1))) u h in
       let class = kernel k.declarations p.0 k.table.nodes in
       (p.0, p.1, (p.2.0, All-head (λ q. class q.0 ≢ class q.1) (i, j) [] p.2.1))
 
 -- what loose classes part may be parted where more general unifiers are enough
-pub may_part_open : (k : Combining) → k.general ≡ true → (s : State) (pairs : List (ℕ × ℕ)) → All (ArePartedOpen k.declarations k.table s) pairs → All (MayPartOpen k s) pairs
-may_part_open k enough s pairs own = All-weaker (ArePartedOpen k.declarations k.table s) (MayPartOpen k s) (λ p h. (record { enough = enough; parted = h.parted }, h.open_pair)) pairs own
+pub may_part_open : (k : Combining) → k.general ≡ true → (s : State) (pairs : List (ℕ × ℕ)) → All (ArePartedOpen k.declarations k.table s k.sorted) pairs → All (MayPartOpen k s) pairs
+may_part_open k enough s pairs own = All-weaker (ArePartedOpen k.declarations k.table s k.sorted) (MayPartOpen k s) (λ p h. (record { enough = enough; parted = h.parted }, h.open_pair)) pairs own
 
 -- what is so of each unifier that is asked for is so of one that stands for it
 pub holds_both : (k : Combining) (P Q : Substitution → Type 0) → ((v : Substitution) → IsWanted k v → P v ↔ Q v) → (u : Substitution) → IsWanted k u → HoldsFor k P u ↔ HoldsFor k Q u

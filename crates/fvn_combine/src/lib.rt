@@ -5,6 +5,7 @@ mod against;
 mod combiner;
 mod effort;
 mod ending;
+mod heights;
 mod homes;
 mod kinds;
 mod labels;

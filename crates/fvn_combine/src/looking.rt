@@ -11,6 +11,7 @@ ghost use Rattle.fvn_combine_inferring.specs.Inferred.{HasNoValues, TellHeads, T
 ghost use Rattle.fvn_combine.specs.inner.Found.{IsLooked, IsLookedAt, MayPart, MayPartOpen};
 
 use crate::effort::Effort;
+use crate::heights::heights_of;
 use crate::kinds::are_of_one_kind;
 use crate::labels::labels_of;
 use crate::opened::{Opened, open};
@@ -25,8 +26,8 @@ use fvn_combine_drawing::{
 use fvn_combine_inferring::{Inferred, Known, differ, infer, known_of, sorted_unifiers_go_with};
 use fvn_combine_leaves::Reading;
 use fvn_combine_loose::{
-    are_parted, loose_classes_are_variables, loose_classes_part, loose_heights,
-    more_general_is_a_preorder, open_identities,
+    are_parted, loose_classes_are_variables, loose_classes_part, more_general_is_a_preorder,
+    open_identities,
 };
 use fvn_combine_nodes::State;
 use fvn_combine_questions::{first_question, is_unfilled, question_on_all, question_on_touched};
@@ -91,8 +92,20 @@ fn look_at_leaf(
 }
 
 // Whether more general unifiers are enough, and a loose class of the state has two nodes apart.
-fn may_part(task: &Task, state: &State, i: usize, j: usize) -> Result<bool, NoMemory>
+fn may_part(
+    task: &Task,
+    state: &State,
+    reading: &Reading,
+    known: &Known,
+    i: usize,
+    j: usize,
+) -> Result<bool, NoMemory>
     requires closed { IsClosed task.now.declarations task.now.table state.now }
+    requires reading { IsReading task.now.declarations task.now.table (class_of state.now)
+        reading.now }
+    requires heads { TellHeads task.now.declarations task.now.table state.now known.now.sorted
+        known.now.heads.items }
+    requires sorted { known.now.sorted ≡ task.now.sorted }
     requires left { i < length task.now.table.nodes }
     requires right { j < length task.now.table.nodes }
     ensures { IfOk result (λ b. IsTrue b → MayPart task.now state.now i j) }
@@ -100,8 +113,9 @@ fn may_part(task: &Task, state: &State, i: usize, j: usize) -> Result<bool, NoMe
     if !task.general {
         return Ok(false);
     }
-    let loose = loose_heights(task.alloc, task.sig, &task.table, state)?;
-    Ok(are_parted(task.sig, &task.table, state, loose.as_slice(), i, j))
+    let loose = heights_of(task, state, reading, known)?;
+    let all = loose.as_slice();
+    Ok(are_parted(task.sig, &task.table, state, known.sorted, all, i, j))
 }
 
 // An open question, or that all unifiers say no to it. Nothing is parted here: where a system is refused, a state that
@@ -126,8 +140,17 @@ fn asked_at_refusal(task: &Task, state: &State, known: &Known, i: usize, j: usiz
 }
 
 // An open question, or that unifiers say no to it: all, or those that are enough.
-fn asked(task: &Task, state: &State, known: &Known, i: usize, j: usize) -> Result<Looked, NoMemory>
+fn asked(
+    task: &Task,
+    state: &State,
+    reading: &Reading,
+    known: &Known,
+    i: usize,
+    j: usize,
+) -> Result<Looked, NoMemory>
     requires closed { IsClosed task.now.declarations task.now.table state.now }
+    requires reading { IsReading task.now.declarations task.now.table (class_of state.now)
+        reading.now }
     requires heads { TellHeads task.now.declarations task.now.table state.now known.now.sorted
         known.now.heads.items }
     requires sorted { known.now.sorted ≡ task.now.sorted }
@@ -143,7 +166,7 @@ fn asked(task: &Task, state: &State, known: &Known, i: usize, j: usize) -> Resul
     if differ(task.sig, &task.table, state, known, i, j) {
         return Ok(Looked::Apart(i, j));
     }
-    if may_part(task, state, i, j)? {
+    if may_part(task, state, reading, known, i, j)? {
         return Ok(Looked::Parted(i, j));
     }
     Ok(Looked::Open(i, j))
@@ -229,7 +252,7 @@ fn look_at_bases(
         return Ok(Looked::Passed);
     }
     match open_touched(task, state, &reading, labels.as_slice(), bases.as_slice())? {
-        Some(pair) => asked(task, state, &known, pair.0, pair.1),
+        Some(pair) => asked(task, state, &reading, &known, pair.0, pair.1),
         None => look_at_leaf(task, state, reading, labels, bases),
     }
 }
@@ -440,14 +463,26 @@ fn look_further(
     ensures { IfOk result (IsLookedAt task.now state.now) }
 {
     match first_question(task.sig, &task.table, state, &reading, effort.is_long()) {
-        Some((i, j)) => asked(task, state, &known, i, j),
+        Some((i, j)) => asked(task, state, &reading, &known, i, j),
         None => look_at_near_leaf(task, state, reading, known, effort),
     }
 }
 
 // A question that is worth asking, or that the unifiers that are enough say no to it.
-fn worth_asking(task: &Task, state: &State, i: usize, j: usize) -> Result<Looked, NoMemory>
+fn worth_asking(
+    task: &Task,
+    state: &State,
+    reading: &Reading,
+    known: &Known,
+    i: usize,
+    j: usize,
+) -> Result<Looked, NoMemory>
     requires closed { IsClosed task.now.declarations task.now.table state.now }
+    requires reading { IsReading task.now.declarations task.now.table (class_of state.now)
+        reading.now }
+    requires heads { TellHeads task.now.declarations task.now.table state.now known.now.sorted
+        known.now.heads.items }
+    requires sorted { known.now.sorted ≡ task.now.sorted }
     requires left { i < length task.now.table.nodes }
     requires right { j < length task.now.table.nodes }
     requires open { IsOpen state.now i j }
@@ -455,7 +490,7 @@ fn worth_asking(task: &Task, state: &State, i: usize, j: usize) -> Result<Looked
 {
     task.recall();
     loose_classes_part();
-    if may_part(task, state, i, j)? {
+    if may_part(task, state, reading, known, i, j)? {
         return Ok(Looked::Parted(i, j));
     }
     Ok(Looked::Open(i, j))
@@ -489,15 +524,87 @@ fn look_inferred(
             Ok(Some(Looked::Together(pairs)))
         }
         Inferred::Question(i, j) => {
-            let looked = worth_asking(task, state, i, j)?;
+            let looked = worth_asking(task, state, reading, known, i, j)?;
             Ok(Some(looked))
         }
         Inferred::Nothing => Ok(None),
     }
 }
 
-// What is asked for by a state: first what all unifiers say of it.
-fn look_within(task: &Task, state: &State, effort: &mut Effort) -> Result<Looked, NoMemory>
+// What is asked for by a state whose loose classes part nothing: first what all unifiers say of it.
+fn look_within(
+    task: &Task,
+    state: &State,
+    reading: Reading,
+    known: Known,
+    effort: &mut Effort,
+) -> Result<Looked, NoMemory>
+    requires closed { IsClosed task.now.declarations task.now.table state.now }
+    requires reading { IsReading task.now.declarations task.now.table (class_of state.now) reading }
+    requires heads { TellHeads task.now.declarations task.now.table state.now known.sorted
+        known.heads.items }
+    requires sorted { known.sorted ≡ task.now.sorted }
+    ensures { IfOk result (IsLookedAt task.now state.now) }
+{
+    match look_inferred(task, state, &reading, &known)? {
+        Some(looked) => Ok(looked),
+        None => look_further(task, state, reading, known, effort),
+    }
+}
+
+// Classes and identities that the more general unifiers of a state have apart, where these are enough.
+fn parted_identities(
+    task: &Task,
+    state: &State,
+    reading: &Reading,
+    known: &Known,
+) -> Result<Vec<(usize, usize)>, NoMemory>
+    requires closed { IsClosed task.now.declarations task.now.table state.now }
+    requires reading { IsReading task.now.declarations task.now.table (class_of state.now)
+        reading.now }
+    requires heads { TellHeads task.now.declarations task.now.table state.now known.now.sorted
+        known.now.heads.items }
+    requires sorted { known.now.sorted ≡ task.now.sorted }
+    ensures { IfOk result (λ pairs. All (MayPartOpen task.now state.now) pairs.items) }
+{
+    if !task.general {
+        return Ok(Vec::new(task.alloc));
+    }
+    if task.table.units().is_empty() {
+        return Ok(Vec::new(task.alloc));
+    }
+    let loose = heights_of(task, state, reading, known)?;
+    let all = loose.as_slice();
+    let pairs = open_identities(task.alloc, task.sig, &task.table, state, known.sorted, all)?;
+    Ok(pairs)
+}
+
+// Which identities the more general unifiers of a state leave out, where these are enough, if any.
+fn look_parted(
+    task: &Task,
+    state: &State,
+    reading: &Reading,
+    known: &Known,
+) -> Result<Option<Looked>, NoMemory>
+    requires closed { IsClosed task.now.declarations task.now.table state.now }
+    requires reading { IsReading task.now.declarations task.now.table (class_of state.now)
+        reading.now }
+    requires heads { TellHeads task.now.declarations task.now.table state.now known.now.sorted
+        known.now.heads.items }
+    requires sorted { known.now.sorted ≡ task.now.sorted }
+    ensures { IfOk result (λ o. IfSome o (IsLookedAt task.now state.now)) }
+{
+    task.recall();
+    loose_classes_part();
+    let pairs = parted_identities(task, state, reading, known)?;
+    if pairs.is_empty() {
+        return Ok(None);
+    }
+    Ok(Some(Looked::PartedAll(pairs)))
+}
+
+// What is asked for by a state: first which identities its more general unifiers leave out, where these are enough.
+fn look_at(task: &Task, state: &State, effort: &mut Effort) -> Result<Looked, NoMemory>
     requires { IsClosed task.now.declarations task.now.table state.now }
     ensures { IfOk result (IsLookedAt task.now state.now) }
 {
@@ -513,40 +620,10 @@ fn look_within(task: &Task, state: &State, effort: &mut Effort) -> Result<Looked
         &reading,
         task.sorted,
     )?;
-    match look_inferred(task, state, &reading, &known)? {
+    match look_parted(task, state, &reading, &known)? {
         Some(looked) => Ok(looked),
-        None => look_further(task, state, reading, known, effort),
+        None => look_within(task, state, reading, known, effort),
     }
-}
-
-// Classes and identities that the more general unifiers of a state have apart, where these are enough.
-fn parted_identities(task: &Task, state: &State) -> Result<Vec<(usize, usize)>, NoMemory>
-    requires closed { IsClosed task.now.declarations task.now.table state.now }
-    ensures { IfOk result (λ pairs. All (MayPartOpen task.now state.now) pairs.items) }
-{
-    if !task.general {
-        return Ok(Vec::new(task.alloc));
-    }
-    if task.table.units().is_empty() {
-        return Ok(Vec::new(task.alloc));
-    }
-    let loose = loose_heights(task.alloc, task.sig, &task.table, state)?;
-    let pairs = open_identities(task.alloc, task.sig, &task.table, state, loose.as_slice())?;
-    Ok(pairs)
-}
-
-// What is asked for by a state: first which identities its more general unifiers leave out, where these are enough.
-fn look_at(task: &Task, state: &State, effort: &mut Effort) -> Result<Looked, NoMemory>
-    requires { IsClosed task.now.declarations task.now.table state.now }
-    ensures { IfOk result (IsLookedAt task.now state.now) }
-{
-    task.recall();
-    loose_classes_part();
-    let pairs = parted_identities(task, state)?;
-    if pairs.is_empty() {
-        return look_within(task, state, effort);
-    }
-    Ok(Looked::PartedAll(pairs))
 }
 
 // Whether nothing is asked: nodes are put together or apart, and the same state is looked at again.

@@ -15,3 +15,4 @@ mod EitherHead
 mod Clashes
 mod Standing
 mod Labels
+mod Wholes

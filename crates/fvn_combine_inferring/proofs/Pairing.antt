@@ -102,7 +102,7 @@ module _ (d : Declarations) (t : NodeTable) (s : State) (closed : IsClosed d t s
 
   module _ (f : OpId) (k l : ℕ) (ys : List ℕ) (one : IsSummand d t s sorted f k) (among : IsAmong d t s f k ys) (others : All (IsItOr (IsNoSummand d t s sorted f k) l) ys) where
     -- a single summand that is one of nothing that it is among but one is a summand of that one
-    held : (values : ℕ → FlatTerm) → GoWithSorts d t s sorted values → 0 < times d s f values (values (class_of s k)) l
+    pub held : (values : ℕ → FlatTerm) → GoWithSorts d t s sorted values → 0 < times d s f values (values (class_of s k)) l
     held values go = at (times d s f values q l) refl
       where
         q : FlatTerm

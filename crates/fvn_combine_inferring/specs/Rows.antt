@@ -1,8 +1,10 @@
 -- Reduced rows: what the sums by an operator say of classes, where each class is replaced by the classes that it adds, and
 -- what stands on both sides is taken out.
-use Rattle.std.specs.Prelude.{◌≡◌, ℕ, ◌≤◌, Bool, List, [], ◌∷◌, length, sum_by}
+use Rattle.std.specs.Prelude.{◌≡◌, ℕ, ◌<◌, ◌≤◌, Bool, List, [], ◌∷◌, length, sum_by}
 use Rattle.fvn_terms.specs.declared.plain.OpId.{OpId}
 use Rattle.fvn_terms.specs.declared.declarations.Declarations.{Declarations}
+use Rattle.fvn_terms.specs.Signature.{axioms}
+use Rattle.fvn_terms.specs.Equality.{IsAssociative}
 use Rattle.fvn_forms.specs.Flat.{FlatTerm}
 use Rattle.fvn_forms.specs.InOrder.{count}
 use Rattle.fvn_forms.specs.Canon.{parts}
@@ -50,3 +52,14 @@ module _ (d : Declarations) (t : NodeTable) (s : State) (sorted : Bool) (f : OpI
   -- it is its one summand
   abbrev pub IsSummand : ℕ → Type 0
   IsSummand k = (values : ℕ → FlatTerm) → GoWithSorts d t s sorted values → summands d s f values k ≡ values (class_of s k) ∷ []
+
+  -- whatever values go with the state, each summand of that of the class of node i is one of that of the class of node j, as often or more often
+  abbrev pub HoldsSummands : ℕ → ℕ → Type 0
+  HoldsSummands i j = (values : ℕ → FlatTerm) → GoWithSorts d t s sorted values → (q : FlatTerm) → times d s f values q i ≤ times d s f values q j
+
+-- an operator and two nodes: the value of the second one's class has all summands of that of the first one's
+pub record IsHeld (d : Declarations) (t : NodeTable) (s : State) (sorted : Bool) (h : OpId × ℕ × ℕ) : Type 0 where
+  pub part : h.1 < length t.nodes
+  pub whole : h.2 < length t.nodes
+  pub associative : IsAssociative (axioms d h.0)
+  pub holds : HoldsSummands d t s sorted h.0 h.1 h.2

@@ -10,6 +10,7 @@ mod differing;
 mod emptying;
 mod expressions;
 mod heads;
+mod held;
 mod holding;
 mod idle;
 mod inferring;
@@ -26,6 +27,7 @@ mod summed;
 
 pub use differing::differ;
 pub use heads::{Known, known_of};
+pub use held::held_parts;
 pub use inferring::{Inferred, infer};
 pub use labelling::label_at;
 pub use laws::sorted_unifiers_go_with;

@@ -1,19 +1,22 @@
 -- The old values are instances of the new ones: the new variable becomes the value of the loose class.
-use Rattle.std.proofs.Common.{◌≡◌, ◌≢◌, ℕ, zero, suc, ◌<◌, ◌≤◌, List, [], ◌∷◌, length, map, refl, ap, ◌∙◌, sym, subst, inl, inr, arith}
+use Rattle.std.proofs.Common.{◌≡◌, ◌≢◌, ℕ, zero, suc, ◌<◌, ◌≤◌, List, [], ◌∷◌, length, map, refl, ap, ◌∙◌, sym, subst, inl, inr, arith, None}
 use Rattle.std.proofs.lemmas.Bool.{cases_lt}
 use Rattle.fvn_base.specs.Decided.{Decided}
 use Rattle.fvn_terms.specs.declared.plain.Var.{Var as Variable}
+use Rattle.fvn_terms.specs.declared.plain.OpId.{OpId}
 use Rattle.fvn_terms.specs.declared.plain.SortId.{SortId}
 use Rattle.fvn_terms.specs.declared.declarations.Declarations.{Declarations}
 use Rattle.fvn_terms.specs.Term.{Term, Terms, var, app, none, more, pack}
 use Rattle.fvn_terms.specs.Substitution.{Substitution, apply, apply_all, Occurs}
 use Rattle.fvn_terms.specs.Signature.{kind, HasKind, HaveKinds, KeepsKinds, same}
 use Rattle.fvn_terms.specs.Places.{stop}
-use Rattle.fvn_terms.specs.Equality.{BEqual}
+use Rattle.fvn_terms.specs.Equality.{two, BEqual}
 use Rattle.fvn_terms.specs.Sorts.{HasSort, IsWellSorted}
 use Rattle.fvn_terms.specs.Unifiers.{Problem}
 use Rattle.fvn_terms.proofs.Substitutions.{apply-var, apply-agree}
 use Rattle.fvn_terms.proofs.Equal.{HasKind-apply, BEqual-sym, BEqual-trans, BEqual-inside}
+use Rattle.fvn_terms.proofs.Steps.{each_none, each_more}
+use Rattle.fvn_terms.proofs.Occurrences.{BEqual-occurs}
 use Rattle.fvn_forms.proofs.KindsKept.{b_equal_keeps_kind}
 use Rattle.fvn_flat.specs.SolvedLists.{only}
 use Rattle.fvn_combine_nodes.specs.Table.{NodeTable, term_at}
@@ -25,9 +28,10 @@ use Rattle.fvn_combine_loose.specs.Loose.{height_of}
 use Rattle.std.proofs.lemmas.Option.{slice_get_within}
 use Rattle.fvn_combine_loose.proofs.Decisions.{var_decided, only_same, only_other}
 use Rattle.fvn_combine_loose.proofs.Mapped.{equal_is, apply_mapped, each_equal}
-use Rattle.fvn_combine_loose.proofs.Setting.{Setting, class_within, class_again, one_value, same_height, argument_within, argument_at}
+use Rattle.fvn_combine_loose.proofs.Setting.{Setting, noted, entry, class_within, class_again, one_value, same_height, argument_within, argument_at}
 use Rattle.fvn_combine_loose.proofs.NewVariable.{bottom, new, not_in_old, bottom_kinded, new_kind, bottom_sort}
-use Rattle.fvn_combine_loose.proofs.Remade.{same_or_other, remade, remade_low_is, remade_bottom, remade_headed}
+use Rattle.fvn_combine_loose.proofs.Splitting.{Sum, old}
+use Rattle.fvn_combine_loose.proofs.Remade.{same_or_other, remade, remade_low_is, remade_bottom, remade_headed, remade_summed}
 
 module _ {d : Declarations} {problem : Problem} {t : NodeTable} {s : State} {z : ℕ} {heights : List ℕ} {u : Substitution} (g : Setting d problem t s z heights u) where
   abbrev height : ℕ → ℕ
@@ -53,6 +57,17 @@ module _ {d : Declarations} {problem : Problem} {t : NodeTable} {s : State} {z :
       in
       subst (λ v. BEqual d v (apply u (term_at t.nodes i))) (sym e) (one_value g (class_of s i) i (class_within g i l) l (class_again g i l))
 
+  -- that of a sum is, where that of the class over which it is is so
+  after_summed : (i : ℕ) → i < length t.nodes → (f : OpId) (p : ℕ) → Sum g f p i → BEqual d (apply after (remade g p)) (apply u (term_at t.nodes p)) → BEqual d (apply after (remade g i)) (apply u (term_at t.nodes i))
+  after_summed i l f p is part = elim (remade_summed g i l f p is) as (λ _. BEqual d (apply after (remade g i)) (apply u (term_at t.nodes i))) [
+    | inl w ↦ BEqual-trans d (equal_is d (ap (apply after) w.1)) (BEqual-trans d part (BEqual-sym d w.0))
+    | inr w ↦
+        let rest = w.0 in
+        let stays : apply after rest ≡ rest = after_stays rest (λ o. not_in_old g i l (BEqual-occurs (new g) d (old g i) (two f (old g p) rest) w.1.0 (inr (inl o)))) in
+        let e : apply after (remade g i) ≡ two f (apply after (remade g p)) rest = ap (apply after) w.1.1 ∙ ap (λ v. two f (apply after (remade g p)) v) stays in
+        BEqual-trans d (equal_is d e) (BEqual-trans d (BEqual-inside d f (each_more part (each_more stop each_none))) (BEqual-sym d w.1.0))
+  ]
+
   -- the old value of a node is an instance of the new one
   pub after_remade : (n i : ℕ) → height i ≤ n → i < length t.nodes → BEqual d (apply after (remade g i)) (apply u (term_at t.nodes i))
   after_remade zero i h l = after_low i l (omega (arith, h))
@@ -61,12 +76,9 @@ module _ {d : Declarations} {problem : Problem} {t : NodeTable} {s : State} {z :
     | inr le ↦ after_low i l (omega (arith, le))
   ]
     where
-      go : 0 < height i → Decided (class_of s i ≡ class_of s z) → ((k : ℕ) → height k ≤ n → k < length t.nodes → BEqual d (apply after (remade g k)) (apply u (term_at t.nodes k))) → BEqual d (apply after (remade g i)) (apply u (term_at t.nodes i))
-      go st (inl e) before =
-          subst (λ v. BEqual d v (apply u (term_at t.nodes i))) (sym (ap (apply after) (remade_bottom g i l e) ∙ after_new))
-          (one_value g z i g.loose.within l (sym e))
-      go st (inr other) before =
-          let r = remade_headed g i l st other in
+      made : 0 < height i → class_of s i ≢ class_of s z → entry g i ≡ None → ((k : ℕ) → height k ≤ n → k < length t.nodes → BEqual d (apply after (remade g k)) (apply u (term_at t.nodes k))) → BEqual d (apply after (remade g i)) (apply u (term_at t.nodes i))
+      made st other unnoted before =
+          let r = remade_headed g i l st other unnoted in
           let m = r.0 in
           let within = slice_get_within t.nodes m.member (App m.operator m.arguments) m.over in
           let e = same_height g m.member i m.of in
@@ -80,6 +92,15 @@ module _ {d : Declarations} {problem : Problem} {t : NodeTable} {s : State} {z :
           ap (apply u) (term_at-over t.nodes g.made.ordered m.member m.operator m.arguments m.over) ∙ ap (app m.operator) (apply_mapped (term_at t.nodes) u m.arguments)
           in
           BEqual-trans d (equal_is d left) (BEqual-trans d (BEqual-inside d m.operator args) (BEqual-trans d (equal_is d (sym right)) (one_value g m.member i within l m.of)))
+
+      go : 0 < height i → Decided (class_of s i ≡ class_of s z) → ((k : ℕ) → height k ≤ n → k < length t.nodes → BEqual d (apply after (remade g k)) (apply u (term_at t.nodes k))) → BEqual d (apply after (remade g i)) (apply u (term_at t.nodes i))
+      go st (inl e) before =
+          subst (λ v. BEqual d v (apply u (term_at t.nodes i))) (sym (ap (apply after) (remade_bottom g i l e) ∙ after_new))
+          (one_value g z i g.loose.within l (sym e))
+      go st (inr other) before = elim (noted (entry g i)) as (λ _. BEqual d (apply after (remade g i)) (apply u (term_at t.nodes i))) [
+        | inl unnoted ↦ made st other unnoted before
+        | inr w ↦ let m = g.loose.sum i w.0 w.1 l w.2 in let low = m.lower in after_summed i l w.0 w.1 w.2 (before w.1 (omega (arith, low, h)) m.part)
+      ]
 
   -- it keeps kinds and sorts
   pub after_keeps : KeepsKinds d after

@@ -49,6 +49,10 @@ alike_joined d class f ks ls ms (inr w) (inr v) = inl (w.1.left ∙ turned (sym 
     turned : {m n p q : ℕ} → m ∷ n ∷ [] ≡ p ∷ q ∷ [] → n ∷ m ∷ [] ≡ q ∷ p ∷ []
     turned e = cc
 
+-- where nothing is noted no sum is
+pub none_noted : (q : OpId × ℕ) → None ≡ Some q → ⊥
+none_noted q e = cc
+
 -- what holds of the numbers below one, and of it
 pub one_more : (P : ℕ → Type 0) (i : ℕ) → ((k : ℕ) → k < i → P k) → P i → (k : ℕ) → k < i + 1 → P k
 one_more P i h here k l = elim (cases_eq k i) [
@@ -118,30 +122,17 @@ idle_own t s i f ks idle =
     ])
 
 -- so what stands over nodes of other classes alone is not idle
-head_busy : (d : Declarations) (t : NodeTable) (s : State) (m i : ℕ) (l : IsLike d t s m i) → IsIdle t s m l.operator l.arguments → ⊥
-head_busy d t s m i l idle =
-    let r = idle_own t s m l.operator l.arguments idle in
-    All-contains (λ k. class_of s k ≢ class_of s i) l.arguments r.0 l.others r.1.0 (r.1.1 ∙ l.of)
+pub absent_busy : (t : NodeTable) (s : State) (m i : ℕ) (f : OpId) (ks : List ℕ) → class_of s m ≡ class_of s i → All (λ k. class_of s k ≢ class_of s i) ks → IsIdle t s m f ks → ⊥
+absent_busy t s m i f ks of others idle =
+    let r = idle_own t s m f ks idle in
+    All-contains (λ k. class_of s k ≢ class_of s i) ks r.0 others r.1.0 (r.1.1 ∙ of)
 
-module _ (d : Declarations) (t : NodeTable) (s : State) (marks : List Bool) (heights : List ℕ) (z : ℕ) where
+module _ (d : Declarations) (t : NodeTable) (s : State) where
   -- nodes i and j are one operator over the same classes, or one of them is idle
-  abbrev AreOneWay : (i j : ℕ) (f g : OpId) (ks ls : List ℕ) → Type 0
+  abbrev pub AreOneWay : (i j : ℕ) (f g : OpId) (ks ls : List ℕ) → Type 0
   AreOneWay i j f g ks ls = (IsIdle t s i f ks ⊎ IsIdle t s j g ls) ⊎ ((f ≡ g) × AreMadeAlike d (class_of s) f ks ls)
 
-  module _ (fine : AreFine d t s marks) (built : (i : ℕ) → i < length t.nodes → IsBuilt t s marks heights z i) where
-    abbrev heads : List (Option ℕ)
-    heads = fine.heads
-
-    at_over : (i : ℕ) (f : OpId) (ks : List ℕ) → IsOver t.nodes i f ks → IsBuilt t s marks heights z i
-    at_over i f ks is = built i (slice_get_within t.nodes i (App f ks) is)
-
-    -- what an operator heads in z's class is idle
-    open_over : (i : ℕ) (f : OpId) (ks : List ℕ) → IsOver t.nodes i f ks → class_of s i ≡ class_of s z → IsIdle t s i f ks
-    open_over i f ks is e = (at_over i f ks is).bottom e f ks is
-
-    noted_over : (i : ℕ) (f : OpId) (ks : List ℕ) → IsOver t.nodes i f ks → class_of s i ≢ class_of s z → 0 < height_of s heights i → IsNoted d t s heads i
-    noted_over i f ks is other stands = (fine.each i ((at_over i f ks is).marked other stands)).noted
-
+  module _ (heads : List (Option ℕ)) where
     -- what is like one node is alike
     both_alike : (i j : ℕ) (f g : OpId) (ks ls : List ℕ) (e : class_of s i ≡ class_of s j) (p : IsNoted d t s heads i) (q : IsNoted d t s heads j)
         → (f ≡ p.like.operator) × AreMadeAlike d (class_of s) f ks p.like.arguments → (g ≡ q.like.operator) × AreMadeAlike d (class_of s) g ls q.like.arguments
@@ -157,7 +148,7 @@ module _ (d : Declarations) (t : NodeTable) (s : State) (marks : List Bool) (hei
         some_same : {m n : ℕ} → Some m ≡ Some n → m ≡ n
         some_same e = cc
 
-    same_way : (i j : ℕ) (f g : OpId) (ks ls : List ℕ) → IsOver t.nodes i f ks → IsOver t.nodes j g ls → class_of s i ≡ class_of s j → IsNoted d t s heads i → IsNoted d t s heads j → AreOneWay i j f g ks ls
+    pub same_way : (i j : ℕ) (f g : OpId) (ks ls : List ℕ) → IsOver t.nodes i f ks → IsOver t.nodes j g ls → class_of s i ≡ class_of s j → IsNoted d t s heads i → IsNoted d t s heads j → AreOneWay i j f g ks ls
     same_way i j f g ks ls a b e p q = elim (p.like.alike f ks a) as (λ _. AreOneWay i j f g ks ls) [
       | inl idle ↦ inl (inl idle)
       | inr l ↦ elim (q.like.alike g ls b) as (λ _. AreOneWay i j f g ks ls) [
@@ -166,33 +157,47 @@ module _ (d : Declarations) (t : NodeTable) (s : State) (marks : List Bool) (hei
       ]
     ]
 
+  module _ (marks : List Bool) (heights : List ℕ) (z : ℕ) (fine : AreFine d t s marks) (built : (i : ℕ) → i < length t.nodes → IsBuilt t s marks heights z i) where
+    at_over : (i : ℕ) (f : OpId) (ks : List ℕ) → IsOver t.nodes i f ks → IsBuilt t s marks heights z i
+    at_over i f ks is = built i (slice_get_within t.nodes i (App f ks) is)
+
+    -- what an operator heads in z's class is idle
+    open_over : (i : ℕ) (f : OpId) (ks : List ℕ) → IsOver t.nodes i f ks → class_of s i ≡ class_of s z → IsIdle t s i f ks
+    open_over i f ks is e = (at_over i f ks is).bottom e f ks is
+
+    noted_over : (i : ℕ) (f : OpId) (ks : List ℕ) → IsOver t.nodes i f ks → class_of s i ≢ class_of s z → 0 < height_of s heights i → IsNoted d t s fine.heads i
+    noted_over i f ks is other stands = (fine.each i ((at_over i f ks is).marked other stands)).noted
+
     made_alike : (i j : ℕ) (f g : OpId) (ks ls : List ℕ) → IsOver t.nodes i f ks → IsOver t.nodes j g ls → class_of s i ≡ class_of s j → 0 < height_of s heights i → AreOneWay i j f g ks ls
     made_alike i j f g ks ls a b e stands = elim (cases_eq (class_of s i) (class_of s z)) as (λ _. AreOneWay i j f g ks ls) [
       | inl same ↦ inl (inl (open_over i f ks a same))
       | inr other ↦
-          same_way i j f g ks ls a b e (noted_over i f ks a other stands)
+          same_way fine.heads i j f g ks ls a b e (noted_over i f ks a other stands)
           (noted_over j g ls b (λ q. other (e ∙ q)) (subst (λ c. 0 < get_or heights c 0) e stands))
     ]
 
-    sorted_alike : (i j : ℕ) (x : Variable) (f : OpId) (ks : List ℕ) → slice_get t.nodes i ≡ Some (Var x) → IsOver t.nodes j f ks → class_of s i ≡ class_of s j → 0 < height_of s heights j
+    sorted_alike : (i : ℕ) (x : Variable) → slice_get t.nodes i ≡ Some (Var x) → 0 < height_of s heights i → (j : ℕ) (f : OpId) (ks : List ℕ) → IsOver t.nodes j f ks → class_of s i ≡ class_of s j
         → IsIdle t s j f ks ⊎ HasSort d (term_at t.nodes j) x.sort
-    sorted_alike i j x f ks is over e stands = elim (cases_eq (class_of s j) (class_of s z)) as (λ _. IsIdle t s j f ks ⊎ HasSort d (term_at t.nodes j) x.sort) [
-      | inl same ↦ inl (open_over j f ks over same)
+    sorted_alike i x is stands j f ks over e = elim (cases_eq (class_of s i) (class_of s z)) as (λ _. IsIdle t s j f ks ⊎ HasSort d (term_at t.nodes j) x.sort) [
+      | inl same ↦ inl (open_over j f ks over (sym e ∙ same))
       | inr other ↦
-          let mark = (built i (slice_get_within t.nodes i (Var x) is)).marked (λ same. other (sym e ∙ same)) (subst (λ c. 0 < get_or heights c 0) (sym e) stands) in
+          let mark = (built i (slice_get_within t.nodes i (Var x) is)).marked other stands in
           (fine.each i mark).sorted x is j (slice_get_within t.nodes j (App f ks) over) f ks over e
     ]
 
-  -- so z's class is loose
-  pub loose_from : AreFine d t s marks → z < length t.nodes → 0 < height_of s heights z → ((i : ℕ) → i < length t.nodes → IsBuilt t s marks heights z i) → IsLoose d t s z heights
-  loose_from fine within stands built = record {
-    within = within;
-    stands = stands;
-    open_class = open_over fine built;
-    raised = λ i f ks is. (at_over fine built i f ks is).raised f ks is;
-    headed = λ i l stands other.
-        let n = (fine.each i ((built i l).marked other stands)).noted in
-        record { member = n.member; operator = n.like.operator; arguments = n.like.arguments; over = n.like.over; of = n.like.of; busy = head_busy d t s n.member i n.like };
-    alike = made_alike fine built;
-    sorts = sorted_alike fine built;
-  }
+    -- so z's class is loose, without sums
+    pub loose_from : z < length t.nodes → 0 < height_of s heights z → (sorted : Bool) → IsLoose d t s sorted z heights []
+    loose_from within stands sorted = record {
+      within = within;
+      stands = stands;
+      open_class = open_over;
+      no_sum = refl;
+      raised = λ i f ks is. (at_over i f ks is).raised f ks is;
+      made = λ i l stands other none.
+          let n = (fine.each i ((built i l).marked other stands)).noted in
+          record { member = n.member; operator = n.like.operator; arguments = n.like.arguments; over = n.like.over; of = n.like.of; busy = absent_busy t s n.member i n.like.operator n.like.arguments n.like.of n.like.others };
+      alike = λ i j f g ks ls a b e stands none. made_alike i j f g ks ls a b e stands;
+      sum = λ k f p l noted. absurd (none_noted (f, p) noted);
+      bearing = λ i g ks f p over noted. absurd (none_noted (f, p) noted);
+      sorts = sorted_alike;
+    }

@@ -53,7 +53,7 @@ module _ {d : Declarations} {problem : Problem} {t : NodeTable} {s : State} {z :
           raised x (height r.0) (height i) (argument_up_to g i f ks is r.0 r.1.0) r.1.1
 
   -- what heads a class and is not idle is higher than its variables, where it is not at the bottom
-  pub below_over : (i : ℕ) (m : IsHeaded d t s i) (n : ℕ) → height m.member ≤ n + 1 → (x : Variable) → Occurs x (term_at t.nodes m.member) → UpTo x n
+  pub below_over : (i : ℕ) (m : IsHeaded d t s g.sorted i) (n : ℕ) → height m.member ≤ n + 1 → (x : Variable) → Occurs x (term_at t.nodes m.member) → UpTo x n
   below_over i m n h x o =
       let r =
       in_argument x m.member m.operator m.arguments m.over

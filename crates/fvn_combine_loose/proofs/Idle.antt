@@ -30,7 +30,7 @@ module _ {d : Declarations} {problem : Problem} {t : NodeTable} {s : State} {z :
   kinds_remade (k ∷ ks) [] within h = absurd h
   kinds_remade (k ∷ ks) (q ∷ qs) within h = (remade_kinded g k q (within k (contains_here k ks)) h.0, kinds_remade ks qs (λ j c. within j (contains_later k ks j c)) h.1)
 
-  over_kinded : (i : ℕ) (f : OpId) (ks : List ℕ) → IsOver t.nodes i f ks → (q : SortId) → HasKind d (term_at t.nodes i) q → HasKind d (app f (pack (map (remade g) ks))) q
+  pub over_kinded : (i : ℕ) (f : OpId) (ks : List ℕ) → IsOver t.nodes i f ks → (q : SortId) → HasKind d (term_at t.nodes i) q → HasKind d (app f (pack (map (remade g) ks))) q
   over_kinded i f ks over q h =
       let w : HasKind d (app f (pack (map (term_at t.nodes) ks))) q = subst (λ v. HasKind d v q) (term_at-over t.nodes g.made.ordered i f ks over) h in
       record { rank = w.rank; listed = w.listed; args = kinds_remade ks _ (argument_within g i f ks over) w.args; result = w.result }

@@ -1,13 +1,16 @@
 -- Lemmas of loose classes, of what is checked of guessed heights, and of substitutions that are more general than a unifier.
 mod Decisions
 mod Mapped
+mod Rests
 mod Setting
 mod Deep
 mod NewVariable
+mod Splitting
 mod Worths
 mod Remade
 mod After
 mod Idle
+mod Exchanged
 mod Loosened
 mod Admitted
 mod GivenSorts
@@ -16,4 +19,6 @@ mod Preorder
 mod Spreading
 mod PartedPairs
 mod Checked
+mod Summed
+mod SumSorts
 mod Ranked

@@ -25,10 +25,11 @@ use Rattle.fvn_combine_nodes.proofs.NodesOf.{variable_place, node_variable}
 use Rattle.fvn_combine_loose.specs.Loose.{height_of}
 use Rattle.fvn_combine_loose.proofs.Decisions.{listed_or_not}
 use Rattle.fvn_combine_loose.proofs.Mapped.{equal_is, apply_mapped, each_equal}
-use Rattle.fvn_combine_loose.proofs.Setting.{Setting, argument_within, argument_up_to}
+use Rattle.fvn_combine_loose.proofs.Setting.{Setting, noted, entry, argument_within, argument_up_to}
 use Rattle.fvn_combine_loose.proofs.Remade.{remade, remade_same, remade_low, remade_over}
 use Rattle.fvn_combine_loose.proofs.After.{remade_kinded}
 use Rattle.fvn_combine_loose.proofs.Idle.{idle_value}
+use Rattle.fvn_combine_loose.proofs.Exchanged.{over_sum}
 
 module _ {d : Declarations} {problem : Problem} {t : NodeTable} {s : State} {z : ℕ} {heights : List ℕ} {u : Substitution} (g : Setting d problem t s z heights u) where
   abbrev height : ℕ → ℕ
@@ -70,9 +71,15 @@ module _ {d : Declarations} {problem : Problem} {t : NodeTable} {s : State} {z :
 
   over_remade : (i : ℕ) (f : OpId) (ks : List ℕ) → IsOver t.nodes i f ks → i < length t.nodes → BEqual d (app f (pack (map (remade g) ks))) (remade g i)
   over_remade i f ks over l = elim (cases_lt 0 (height i)) as (λ _. BEqual d (app f (pack (map (remade g) ks))) (remade g i)) [
-    | inl st ↦ elim (remade_over g i f ks over l st) as (λ _. BEqual d (app f (pack (map (remade g) ks))) (remade g i)) [
-      | inl idle ↦ idle_value g i f ks over l idle
-      | inr e ↦ BEqual-sym d e
+    | inl st ↦ elim (noted (entry g i)) as (λ _. BEqual d (app f (pack (map (remade g) ks))) (remade g i)) [
+      | inl none ↦ elim (remade_over g i f ks over l st none) as (λ _. BEqual d (app f (pack (map (remade g) ks))) (remade g i)) [
+        | inl idle ↦ idle_value g i f ks over l idle
+        | inr e ↦ BEqual-sym d e
+      ]
+      | inr w ↦ elim (g.loose.bearing i f ks w.0 w.1 over w.2) as (λ _. BEqual d (app f (pack (map (remade g) ks))) (remade g i)) [
+        | inl idle ↦ idle_value g i f ks over l idle
+        | inr b ↦ subst (λ o. BEqual d (app o (pack (map (remade g) ks))) (remade g i)) (sym b.0) (over_sum g i w.0 ks w.1 (subst (λ o. IsOver t.nodes i o ks) b.0 over) l w.2 b.1)
+      ]
     ]
     | inr le ↦
         let low : height i ≡ 0 = omega (arith, le) in

@@ -57,7 +57,7 @@ sort_by_kind d q h = elim (cases_lt q.0 (length d.kinds)) as (λ _. IsSort d q) 
 ]
 
 -- a variable of the least sort of a term has its kind
-least_kind : (d : Declarations) → IsGood d → (t : Term) (k : SortId) → HasKind d t k → IsSort d (least_sort d (canon d t)) × (kind d (least_sort d (canon d t)) ≡ k)
+pub least_kind : (d : Declarations) → IsGood d → (t : Term) (k : SortId) → HasKind d t k → IsSort d (least_sort d (canon d t)) × (kind d (least_sort d (canon d t)) ≡ k)
 least_kind d good t k h =
     let e : kind d (least_sort d (canon d t)) ≡ k = sort_in-kind d good (λ x. x.sort) (λ x i. refl) (canon d t) (canon_settled d t) k (canon_of_kind d good.fits t k h) in
     (sort_by_kind d (least_sort d (canon d t)) (subst (IsSort d) (sym e) (kind_listed d good.kinded t k h)), e)

@@ -1,5 +1,5 @@
 -- A loose class of a state that admits the partition of a unifier.
-use Rattle.std.proofs.Common.{◌≡◌, ◌⊎◌, ℕ, ◌+◌, ◌<◌, ◌≤◌, List, [], ◌∷◌, length, map, ap, ◌∙◌, sym, subst, refl, inl, inr, arith, Contains, slice_index_or}
+use Rattle.std.proofs.Common.{◌≡◌, ◌⊎◌, ℕ, ◌+◌, Bool, Option, Some, None, ◌<◌, ◌≤◌, List, [], ◌∷◌, length, map, ap, ◌∙◌, sym, subst, refl, inl, inr, arith, Contains, slice_index_or}
 use Rattle.std.specs.Prelude.{Any}
 use Rattle.std.proofs.lemmas.Bool.{cases_lt}
 use Rattle.std.proofs.lemmas.List.Elements.{All-contains}
@@ -15,11 +15,12 @@ use Rattle.fvn_flat.specs.Problems.{IsProblem}
 use Rattle.fvn_flat.specs.SolvedLists.{IsKindUnifier}
 use Rattle.fvn_combine_nodes.specs.Table.{NodeTable, IsOver, IsWellMade, IsTableOf, IsUnitOf, term_at}
 use Rattle.fvn_combine_nodes.specs.States.{Admits, IsClosed, class_of}
-use Rattle.fvn_combine_nodes.specs.Unifiers.{kernel, Partitions}
+use Rattle.fvn_combine_nodes.specs.Unifiers.{value_at, kernel, Partitions}
 use Rattle.fvn_combine_nodes.specs.declared.state.State.{State}
 use Rattle.fvn_combine_nodes.proofs.Admitting.{named_within, admits_same}
 use Rattle.fvn_combine_nodes.proofs.Kernels.{unifier_partitions}
 use Rattle.fvn_combine_nodes.proofs.Nodes.{application_at, arguments_within}
+use Rattle.fvn_combine_inferring.specs.Sorted.{GoWithSorts}
 use Rattle.fvn_combine_loose.specs.Loose.{height_of, StandsIn, IsRaised, IsIdle, IsHeaded, IsLoose}
 
 -- one of two numbers
@@ -36,6 +37,11 @@ of_two a b c h = elim (contains_cases a (b ∷ []) c h) as (λ _. (a ≡ c) ⊎ 
 none_of_none : (P : ℕ → Type 0) → Any P [] → ⊥
 none_of_none P a = let l = a.2 in omega (arith, l)
 
+-- it is noted for a class that it is a sum, or nothing is
+pub noted : (o : Option (OpId × ℕ)) → (o ≡ None) ⊎ ((f : OpId) × (p : ℕ) × (o ≡ Some (f, p)))
+noted None = inl refl
+noted (Some (f, p)) = inr (f, p, refl)
+
 no_arguments : (T : ℕ → Term) (ks : List ℕ) → pack (map T ks) ≡ none → ks ≡ []
 no_arguments T [] e = refl
 no_arguments T (k ∷ ks) e = cc
@@ -47,9 +53,12 @@ pub record Setting (d : Declarations) (problem : Problem) (t : NodeTable) (s : S
   pub made : IsWellMade t
   pub table : IsTableOf d problem t
   pub closed : IsClosed d t s
-  pub loose : IsLoose d t s z heights
+  pub sums : List (Option (OpId × ℕ))
+  pub sorted : Bool
+  pub loose : IsLoose d t s sorted z heights sums
   pub unifier : IsKindUnifier d problem u
   pub admits : Admits s (kernel d u t.nodes)
+  pub values_go : GoWithSorts d t s sorted (value_at d u t.nodes)
 
 module _ {d : Declarations} {problem : Problem} {t : NodeTable} {s : State} {z : ℕ} {heights : List ℕ} {u : Substitution} (g : Setting d problem t s z heights u) where
   abbrev height : ℕ → ℕ
@@ -76,18 +85,25 @@ module _ {d : Declarations} {problem : Problem} {t : NodeTable} {s : State} {z :
   pub same_height : (i j : ℕ) → class_of s i ≡ class_of s j → height i ≡ height j
   same_height i j e = ap (λ c. slice_index_or heights c 0) e
 
+  -- what is noted of the class of a node
+  abbrev pub entry : ℕ → Option (OpId × ℕ)
+  entry i = slice_index_or g.sums (class_of s i) None
+
+  pub same_entry : (i j : ℕ) → class_of s i ≡ class_of s j → entry i ≡ entry j
+  same_entry i j e = ap (λ c. slice_index_or g.sums c None) e
+
   pub argument_within : (i : ℕ) (f : OpId) (ks : List ℕ) → IsOver t.nodes i f ks → (k : ℕ) → Contains ks k → k < length t.nodes
   argument_within i f ks over k c = All-contains (λ k. k < length t.nodes) ks k (arguments_within t.nodes g.made.ordered i f ks over) c
 
   -- what heads a class and is not idle is above its arguments
-  pub head_raised : (i : ℕ) (m : IsHeaded d t s i) → IsRaised s heights m.member m.arguments
+  pub head_raised : (i : ℕ) (m : IsHeaded d t s g.sorted i) → IsRaised s heights m.member m.arguments
   head_raised i m = elim (g.loose.raised m.member m.operator m.arguments m.over) as (λ _. IsRaised s heights m.member m.arguments) [
     | inl idle ↦ absurd (m.busy idle)
     | inr r ↦ r
   ]
 
   -- its argument is no higher than n where it is no higher than n + 1
-  pub argument_at : (i : ℕ) (m : IsHeaded d t s i) (k : ℕ) → Contains m.arguments k → (n : ℕ) → height m.member ≤ n + 1 → height k ≤ n
+  pub argument_at : (i : ℕ) (m : IsHeaded d t s g.sorted i) (k : ℕ) → Contains m.arguments k → (n : ℕ) → height m.member ≤ n + 1 → height k ≤ n
   argument_at i m k c n h = elim (cases_lt 0 (height k)) as (λ _. height k ≤ n) [
     | inl st ↦
         let l = All-contains (λ k. StandsIn s heights k → height k < height m.member) m.arguments k (head_raised i m).lower c st in

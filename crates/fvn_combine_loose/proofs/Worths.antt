@@ -1,17 +1,22 @@
--- Terms for classes: the new variable for the loose class, and what it stands in made anew from it.
-use Rattle.std.proofs.Common.{◌≡◌, ◌≢◌, ◌⊎◌, ℕ, zero, suc, ◌+◌, ◌<◌, ◌≤◌, List, [], ◌∷◌, length, map, refl, ap, ◌∙◌, sym, inl, inr, arith, slice_index_or}
+-- Terms for classes: the new variable for the loose class, and what it stands in made anew from it; a sum over a class has the new
+-- term of that one in the place of its old value.
+use Rattle.std.proofs.Common.{◌≡◌, ◌≢◌, ◌⊎◌, ℕ, zero, suc, ◌+◌, ◌<◌, ◌≤◌, List, [], ◌∷◌, length, map, refl, ap, ◌∙◌, sym, subst, inl, inr, arith, slice_index_or, Option, Some, None}
 use Rattle.std.proofs.lemmas.Bool.{cases_lt, cases_order}
+use Rattle.fvn_terms.specs.declared.plain.OpId.{OpId}
 use Rattle.fvn_terms.specs.declared.declarations.Declarations.{Declarations}
 use Rattle.fvn_terms.specs.Term.{Term, var, app, pack}
 use Rattle.fvn_terms.specs.Substitution.{Substitution, apply}
+use Rattle.fvn_terms.specs.Equality.{two, BEqual}
 use Rattle.fvn_terms.specs.Unifiers.{Problem}
 use Rattle.fvn_combine_nodes.specs.Table.{NodeTable, term_at}
 use Rattle.fvn_combine_nodes.specs.States.{class_of}
 use Rattle.fvn_combine_nodes.specs.declared.state.State.{State}
 use Rattle.fvn_combine_loose.specs.Loose.{height_of, IsHeaded}
 use Rattle.fvn_combine_loose.proofs.Mapped.{map_agree}
-use Rattle.fvn_combine_loose.proofs.Setting.{Setting, class_again, same_height, argument_within, argument_at}
+use Rattle.fvn_combine_loose.proofs.Setting.{Setting, noted, entry, class_again, same_height, same_entry, argument_within, argument_at}
 use Rattle.fvn_combine_loose.proofs.NewVariable.{new}
+use Rattle.fvn_combine_loose.proofs.Rests.{Splits}
+use Rattle.fvn_combine_loose.proofs.Splitting.{Sum, old, sum_stands, sum_splits}
 
 -- a number that none of these is above
 abbrev top : List ℕ → ℕ
@@ -24,13 +29,33 @@ within_top [] (suc i) = omega arith
 within_top (h ∷ hs) zero = omega arith
 within_top (h ∷ hs) (suc i) = let l = within_top hs i in omega (arith, l)
 
+not_both : (o : Option (OpId × ℕ)) (a : OpId × ℕ) → o ≡ None → o ≡ Some a → ⊥
+not_both o a e h = cc
+
+one_noted : (o : Option (OpId × ℕ)) (a b : OpId × ℕ) → o ≡ Some a → o ≡ Some b → a ≡ b
+one_noted o a b e h = cc
+
 module _ {d : Declarations} {problem : Problem} {t : NodeTable} {s : State} {z : ℕ} {heights : List ℕ} {u : Substitution} (g : Setting d problem t s z heights u) where
   abbrev height : ℕ → ℕ
   height = height_of s heights
 
-  -- what class i is: none of a node or one in which the loose class does not stand, the loose class, or one that is headed
+  -- class i is noted as a sum over a lower class, and its value is that one's, or a sum of it and a rest
+  abbrev IsSplit : ℕ → Type 0
+  IsSplit i = (f : OpId) × (p : ℕ) × (Sum g f p i × (p < length t.nodes) × (height p < height i) × Splits d f (old g i) (old g p))
+
+  -- class i is headed, and not noted as a sum
+  abbrev IsMade : ℕ → Type 0
+  IsMade i = (entry g i ≡ None) × IsHeaded d t s g.sorted i
+
+  -- what class i is: none of a node or one in which the loose class does not stand, the loose class, one that is made, or a sum
   abbrev Role : ℕ → Type 0
-  Role i = ((length t.nodes ≤ i) ⊎ (height i ≡ 0)) ⊎ ((0 < height i) × ((class_of s i ≡ class_of s z) ⊎ IsHeaded d t s i))
+  Role i = ((length t.nodes ≤ i) ⊎ (height i ≡ 0)) ⊎ ((0 < height i) × ((class_of s i ≡ class_of s z) ⊎ (IsMade i ⊎ IsSplit i)))
+
+  other_role : (i : ℕ) → i < length t.nodes → 0 < height i → class_of s i ≢ class_of s z → IsMade i ⊎ IsSplit i
+  other_role i l h n = elim (noted (entry g i)) as (λ _. IsMade i ⊎ IsSplit i) [
+    | inl none ↦ inl (none, g.loose.made i l h n none)
+    | inr w ↦ let m = g.loose.sum i w.0 w.1 l w.2 in inr (w.0, w.1, (w.2, m.part, m.lower, sum_splits g i l w.0 w.1 w.2))
+  ]
 
   role : (i : ℕ) → Role i
   role i = elim (cases_lt i (length t.nodes)) as (λ _. Role i) [
@@ -39,7 +64,7 @@ module _ {d : Declarations} {problem : Problem} {t : NodeTable} {s : State} {z :
         | inl e ↦ inr (h, inl e)
         | inr o ↦ inr (
           h,
-          inr (g.loose.headed i l h (elim o as (λ _. class_of s i ≢ class_of s z) [
+          inr (other_role i l h (elim o as (λ _. class_of s i ≢ class_of s z) [
             | inl a ↦ λ e. omega (arith, a, e)
             | inr a ↦ λ e. omega (arith, a, e)
           ])),
@@ -54,7 +79,9 @@ module _ {d : Declarations} {problem : Problem} {t : NodeTable} {s : State} {z :
   abbrev made_of : (ℕ → Term) → (i : ℕ) → Role i → Term
   made_of V i (inl r) = apply u (term_at t.nodes i)
   made_of V i (inr (h, inl e)) = var (new g)
-  made_of V i (inr (h, inr m)) = app m.operator (pack (map (λ k. V (class_of s k)) m.arguments))
+  made_of V i (inr (h, inr (inl (none, m)))) = app m.operator (pack (map (λ k. V (class_of s k)) m.arguments))
+  made_of V i (inr (h, inr (inr (f, p, (is, within, lower, inl e))))) = V (class_of s p)
+  made_of V i (inr (h, inr (inr (f, p, (is, within, lower, inr (rest, e)))))) = two f (V (class_of s p)) rest
 
   abbrev turns : ℕ → ℕ → Term
   turns zero i = apply u (term_at t.nodes i)
@@ -72,7 +99,10 @@ module _ {d : Declarations} {problem : Problem} {t : NodeTable} {s : State} {z :
       go : ((j : ℕ) → height j ≤ n → turns (suc n) j ≡ turns n j) → (r : Role i) → made_of (turns (suc n)) i r ≡ made_of (turns n) i r
       go before (inl r) = refl
       go before (inr (st, inl e)) = refl
-      go before (inr (st, inr m)) =
+      go before (inr (st, inr (inr (f, p, (is, within, lower, inl e))))) = let h1 = same_height g (class_of s p) p (class_again g p within) in before (class_of s p) (omega (arith, h1, lower, h))
+      go before (inr (st, inr (inr (f, p, (is, within, lower, inr (rest, e)))))) =
+          let h1 = same_height g (class_of s p) p (class_again g p within) in ap (λ v. two f v rest) (before (class_of s p) (omega (arith, h1, lower, h)))
+      go before (inr (st, inr (inl (none, m)))) =
           ap (λ ts. app m.operator (pack ts))
           (map_agree (λ k. turns (suc n) (class_of s k)) (λ k. turns n (class_of s k)) m.arguments
           (λ k c.
@@ -106,14 +136,34 @@ module _ {d : Declarations} {problem : Problem} {t : NodeTable} {s : State} {z :
       go (inl (inl out)) = absurd (omega (arith, out, l))
       go (inl (inr low)) = absurd (let e = same_height g i z same in let st = g.loose.stands in omega (arith, low, e, st))
       go (inr (st, inl e)) = refl
-      go (inr (st, inr m)) = absurd (m.busy (g.loose.open_class m.member m.operator m.arguments m.over (m.of ∙ same)))
+      go (inr (st, inr (inl (none, m)))) = absurd (m.busy (g.loose.open_class m.member m.operator m.arguments m.over (m.of ∙ same)))
+      go (inr (st, inr (inr (f, p, (is, within, lower, splits))))) = absurd (not_both (entry g i) (f, p) (same_entry g i z same ∙ g.loose.no_sum) is)
 
-  -- that of each other class in which it stands is a member's operator over the terms of the arguments' classes
-  pub worth_headed : (i : ℕ) → i < length t.nodes → 0 < height i → class_of s i ≢ class_of s z → (m : IsHeaded d t s i) × (worth i ≡ app m.operator (pack (map (λ k. worth (class_of s k)) m.arguments)))
-  worth_headed i l stands other = let r = go (role i) in (r.0, worth_is i ∙ r.1)
+  -- that of each other class in which it stands and that is no sum is a member's operator over the terms of the arguments' classes
+  pub worth_headed : (i : ℕ) → i < length t.nodes → 0 < height i → class_of s i ≢ class_of s z → entry g i ≡ None → (m : IsHeaded d t s g.sorted i) × (worth i ≡ app m.operator (pack (map (λ k. worth (class_of s k)) m.arguments)))
+  worth_headed i l stands other none = let r = go (role i) in (r.0, worth_is i ∙ r.1)
     where
-      go : (r : Role i) → (m : IsHeaded d t s i) × (made_of worth i r ≡ app m.operator (pack (map (λ k. worth (class_of s k)) m.arguments)))
+      go : (r : Role i) → (m : IsHeaded d t s g.sorted i) × (made_of worth i r ≡ app m.operator (pack (map (λ k. worth (class_of s k)) m.arguments)))
       go (inl (inl out)) = absurd (omega (arith, out, l))
       go (inl (inr low)) = absurd (omega (arith, stands, low))
       go (inr (st, inl e)) = absurd (other e)
-      go (inr (st, inr m)) = (m, refl)
+      go (inr (st, inr (inl (n, m)))) = (m, refl)
+      go (inr (st, inr (inr (f, p, (is, within, lower, splits))))) = absurd (not_both (entry g i) (f, p) none is)
+
+  -- v is a sum of f in which the term w stands for the old value of p, in that of i
+  abbrev pub IsSummed : OpId → ℕ → ℕ → Term → Term → Type 0
+  IsSummed f p i v w = (BEqual d (old g i) (old g p) × (v ≡ w)) ⊎ ((rest : Term) × (BEqual d (old g i) (two f (old g p) rest) × (v ≡ two f w rest)))
+
+  -- that of a sum is made from the term of the class over which it is
+  pub worth_summed : (i : ℕ) → i < length t.nodes → (f : OpId) (p : ℕ) → Sum g f p i → IsSummed f p i (worth i) (worth (class_of s p))
+  worth_summed i l f p noted_as = subst (λ v. IsSummed f p i v (worth (class_of s p))) (sym (worth_is i)) (go (role i))
+    where
+      go : (r : Role i) → IsSummed f p i (made_of worth i r) (worth (class_of s p))
+      go (inl (inl out)) = absurd (omega (arith, out, l))
+      go (inl (inr low)) = absurd (let st = sum_stands g f p i l noted_as in omega (arith, st, low))
+      go (inr (st, inl e)) = absurd (not_both (entry g i) (f, p) (same_entry g i z e ∙ g.loose.no_sum) noted_as)
+      go (inr (st, inr (inl (n, m)))) = absurd (not_both (entry g i) (f, p) n noted_as)
+      go (inr (st, inr (inr (h, q, (is, within, lower, inl e))))) =
+          subst (λ (o : OpId × ℕ). IsSummed o.0 o.1 i (worth (class_of s q)) (worth (class_of s o.1))) (one_noted (entry g i) (h, q) (f, p) is noted_as) (inl (e, refl))
+      go (inr (st, inr (inr (h, q, (is, within, lower, inr (rest, e)))))) =
+          subst (λ (o : OpId × ℕ). IsSummed o.0 o.1 i (two h (worth (class_of s q)) rest) (worth (class_of s o.1))) (one_noted (entry g i) (h, q) (f, p) is noted_as) (inr (rest, (e, refl)))

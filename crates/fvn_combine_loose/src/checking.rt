@@ -1,9 +1,9 @@
 //! Whether guessed heights are those of the classes in which a loose class stands.
-ghost use Rattle.std.specs.Prelude.{◌≡◌, ◌≢◌, ◌⊎◌, ℕ, ◌<◌, [], ◌∷◌, length, map, slice_index_or, None, All, IsTrue, IfOk};
+ghost use Rattle.std.specs.Prelude.{◌≡◌, ◌≢◌, ◌⊎◌, ℕ, ◌<◌, Bool, [], ◌∷◌, length, map, slice_index_or, None, All, IsTrue, IfOk};
 ghost use Rattle.fvn_combine_nodes.specs.Classes.{AreTogether};
 ghost use Rattle.fvn_combine_nodes.specs.States.{IsClosed, class_of};
 ghost use Rattle.fvn_combine_loose.specs.Loose.{height_of, IsRaised, IsIdle, AreOf, AreCrosswise, AreMadeAlike, IsLoose};
-ghost use Rattle.fvn_combine_loose.specs.inner.Checks.{IsHighest, AreRaised, IsOpenNode, AreOver, IsLike, IsNoted, IsMarked, IsBuilt, AreOfSort, IsOfSort, IsFine, AreFine};
+ghost use Rattle.fvn_combine_loose.specs.inner.Checks.{IsHighest, AreRaised, IsOpenNode, AreOver, IsLike, IsNoted, IsMarked, IsBuilt, AreOfSort, IsOfSort, IsKept, EachIsKept, IsFine, AreFine};
 ghost use Rattle.fvn_combine_loose.specs.inner.NodeSorts.{HaveSorts};
 
 use crate::sorts::has_sort;
@@ -146,7 +146,7 @@ fn is_idle_or_raised(
 }
 
 // The same of node i and its arguments.
-fn are_raised(table: &Table, state: &State, heights: &[usize], i: usize) -> bool
+pub(crate) fn are_raised(table: &Table, state: &State, heights: &[usize], i: usize) -> bool
     requires whole { length state.now.names ≡ length table.now.nodes }
     requires within { i < length table.now.nodes }
     ensures { IsTrue result → AreRaised table.now state.now heights.now i }
@@ -159,7 +159,7 @@ fn are_raised(table: &Table, state: &State, heights: &[usize], i: usize) -> bool
 }
 
 // Whether node i is a variable, or idle.
-fn is_open_node(table: &Table, state: &State, i: usize) -> bool
+pub(crate) fn is_open_node(table: &Table, state: &State, i: usize) -> bool
     requires whole { length state.now.names ≡ length table.now.nodes }
     requires within { i < length table.now.nodes }
     ensures { IsTrue result → IsOpenNode table.now state.now i }
@@ -321,7 +321,7 @@ fn is_of_sort(
 }
 
 // Whether all that operators head in the class of node i are known to have the sort, but idle ones.
-fn are_of_sort(
+pub(crate) fn are_of_sort(
     sig: &Signature,
     table: &Table,
     state: &State,
@@ -340,6 +340,46 @@ fn are_of_sort(
         }
     }
     true
+}
+
+// Whether node i is no variable, or what operators head in its class is known to have its sort.
+fn is_kept(
+    sig: &Signature,
+    table: &Table,
+    state: &State,
+    sorts: &[Option<SortId>],
+    i: usize,
+) -> bool
+    requires whole { length state.now.names ≡ length table.now.nodes }
+    requires sorts { HaveSorts sig.now table.now.nodes sorts.now }
+    requires within { i < length table.now.nodes }
+    ensures { IsTrue result → IsKept sig.now table.now state.now i }
+{
+    match table.node(i) {
+        Node::Var(x) => are_of_sort(sig, table, state, sorts, i, x.sort),
+        Node::App(_, _) => true,
+    }
+}
+
+// A mark for each node: whether it is so.
+pub(crate) fn kept_nodes(
+    alloc: Global,
+    sig: &Signature,
+    table: &Table,
+    state: &State,
+    sorts: &[Option<SortId>],
+) -> Result<Vec<bool>, NoMemory>
+    requires whole { length state.now.names ≡ length table.now.nodes }
+    requires sorts { HaveSorts sig.now table.now.nodes sorts.now }
+    ensures { IfOk result (λ marks. EachIsKept sig.now table.now state.now marks.items) }
+{
+    let count = table.nodes().len();
+    let mut marks = Vec::with_capacity(alloc, count)?;
+    for i in 0..count {
+        let kept = is_kept(sig, table, state, sorts, i);
+        marks.push(kept)?;
+    }
+    Ok(marks)
 }
 
 // Whether node i is like the node that is noted to head its class, and, where it is a variable, what operators head in its
@@ -389,7 +429,7 @@ pub(crate) fn fine_nodes(
 }
 
 // Whether node i is marked.
-fn is_marked(marks: &[bool], i: usize) -> bool
+pub(crate) fn is_marked(marks: &[bool], i: usize) -> bool
     ensures { IsTrue result → IsMarked marks.now i }
 {
     match marks.get(i) {
@@ -451,7 +491,8 @@ pub(crate) fn is_loose(
     requires closed { IsClosed sig.now table.now state.now }
     requires fine { AreFine sig.now table.now state.now marks.now }
     requires bottom { z < length table.now.nodes }
-    ensures { IsTrue result → IsLoose sig.now table.now state.now z heights.now }
+    ensures { IsTrue result → (sorted : Bool)
+        → IsLoose sig.now table.now state.now sorted z heights.now [] }
 {
     if height_at(state, heights, z) == 0 {
         return false;

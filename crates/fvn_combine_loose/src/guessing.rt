@@ -24,7 +24,7 @@ fn headless(alloc: Global, count: usize) -> Result<Vec<Option<usize>>, NoMemory>
 }
 
 // Nothing barred.
-fn unbarred(alloc: Global, count: usize) -> Result<Vec<bool>, NoMemory> {
+pub(crate) fn unbarred(alloc: Global, count: usize) -> Result<Vec<bool>, NoMemory> {
     let mut barred = Vec::with_capacity(alloc, count)?;
     for _i in 0..count {
         barred.push(false)?;
@@ -33,7 +33,7 @@ fn unbarred(alloc: Global, count: usize) -> Result<Vec<bool>, NoMemory> {
 }
 
 // Bars a class.
-fn bar(barred: &mut Vec<bool>, class: usize) {
+pub(crate) fn bar(barred: &mut Vec<bool>, class: usize) {
     if class < barred.len() {
         barred[class] = true;
     }
@@ -169,8 +169,23 @@ pub(crate) fn has_candidate(table: &Table, state: &State, ways: &Ways) -> bool
     false
 }
 
+// Whether an operator of sums heads some node.
+pub(crate) fn has_sum(sig: &Signature, table: &Table) -> bool {
+    for node in table.nodes() {
+        match node {
+            Node::Var(_) => {}
+            Node::App(f, _) => {
+                if sig.axioms(*f).is_sum() {
+                    return true;
+                }
+            }
+        }
+    }
+    false
+}
+
 // Notes the height of a class.
-fn set_height(heights: &mut Vec<usize>, class: usize, height: usize)
+pub(crate) fn set_height(heights: &mut Vec<usize>, class: usize, height: usize)
     ensures { length heights.new.items ≡ length heights.old.items }
 {
     if class < heights.len() {

@@ -2,11 +2,14 @@
 #![tactic(auto)]
 
 mod checking;
+mod drafting;
 mod guessing;
 mod heights;
 mod laws;
 mod parting;
 mod sorts;
+mod sum_sorts;
+mod summing;
 
 pub use heights::{loose_classes, loose_heights};
 pub use laws::{loose_classes_are_variables, loose_classes_part, more_general_is_a_preorder};

@@ -30,18 +30,20 @@ pub fn are_parted(
     sig: &Signature,
     table: &Table,
     state: &State,
+    sorted: bool,
     all: &[Seq<usize>],
     i: usize,
     j: usize,
 ) -> bool
     requires closed { IsClosed sig.now table.now state.now }
-    requires heights { All (λ h. AreHeights sig.now table.now state.now h) all.now }
+    requires heights { All (λ h. AreHeights sig.now table.now state.now sorted h) all.now }
     requires left { i < length table.now.nodes }
     requires right { j < length table.now.nodes }
-    ensures { IsTrue result → AreParted sig.now table.now state.now i j }
+    ensures { IsTrue result → AreParted sig.now table.now state.now sorted i j }
 {
     let _sig = sig;
     let _table = table;
+    let _sorted = sorted;
     for heights in all {
         if stand_in_one(state, heights.as_slice(), i, j) {
             return true;
@@ -55,41 +57,42 @@ fn are_parted_open(
     sig: &Signature,
     table: &Table,
     state: &State,
+    sorted: bool,
     all: &[Seq<usize>],
     i: usize,
     j: usize,
 ) -> bool
     requires closed { IsClosed sig.now table.now state.now }
-    requires heights { All (λ h. AreHeights sig.now table.now state.now h) all.now }
+    requires heights { All (λ h. AreHeights sig.now table.now state.now sorted h) all.now }
     requires left { i < length table.now.nodes }
     requires right { j < length table.now.nodes }
-    ensures { IsTrue result → ArePartedOpen sig.now table.now state.now (i, j) }
+    ensures { IsTrue result → ArePartedOpen sig.now table.now state.now sorted (i, j) }
 {
-    if !are_parted(sig, table, state, all, i, j) {
+    if !are_parted(sig, table, state, sorted, all, i, j) {
         return false;
     }
     state.is_open(i, j)
 }
 
-// Notes node i and an identity, where a loose class parts them and it is open whether they are in one class.
+// Notes a node and an identity, where a loose class parts them and it is open whether they are in one class.
 fn note_parted(
     pairs: &mut Vec<(usize, usize)>,
     sig: &Signature,
     table: &Table,
     state: &State,
+    sorted: bool,
     all: &[Seq<usize>],
-    i: usize,
-    unit: usize,
+    pair: (usize, usize),
 ) -> Result<(), NoMemory>
     requires closed { IsClosed sig.now table.now state.now }
-    requires heights { All (λ h. AreHeights sig.now table.now state.now h) all.now }
-    requires left { i < length table.now.nodes }
-    requires right { unit < length table.now.nodes }
-    requires noted { All (ArePartedOpen sig.now table.now state.now) pairs.old.items }
-    ensures { OnOk result (All (ArePartedOpen sig.now table.now state.now) pairs.new.items) }
+    requires heights { All (λ h. AreHeights sig.now table.now state.now sorted h) all.now }
+    requires left { pair.0 < length table.now.nodes }
+    requires right { pair.1 < length table.now.nodes }
+    requires noted { All (ArePartedOpen sig.now table.now state.now sorted) pairs.old.items }
+    ensures { OnOk result (All (ArePartedOpen sig.now table.now state.now sorted) pairs.new.items) }
 {
-    if are_parted_open(sig, table, state, all, i, unit) {
-        pairs.push((i, unit))?;
+    if are_parted_open(sig, table, state, sorted, all, pair.0, pair.1) {
+        pairs.push((pair.0, pair.1))?;
         return Ok(());
     }
     Ok(())
@@ -101,21 +104,22 @@ fn note_identities(
     sig: &Signature,
     table: &Table,
     state: &State,
+    sorted: bool,
     all: &[Seq<usize>],
     i: usize,
 ) -> Result<(), NoMemory>
     requires closed { IsClosed sig.now table.now state.now }
-    requires heights { All (λ h. AreHeights sig.now table.now state.now h) all.now }
+    requires heights { All (λ h. AreHeights sig.now table.now state.now sorted h) all.now }
     requires within { i < length table.now.nodes }
-    requires noted { All (ArePartedOpen sig.now table.now state.now) pairs.old.items }
-    ensures { OnOk result (All (ArePartedOpen sig.now table.now state.now) pairs.new.items) }
+    requires noted { All (ArePartedOpen sig.now table.now state.now sorted) pairs.old.items }
+    ensures { OnOk result (All (ArePartedOpen sig.now table.now state.now sorted) pairs.new.items) }
 {
     table.recall_well_made();
     if state.class_of(i) != i {
         return Ok(());
     }
     for (_, u) in table.units() {
-        note_parted(pairs, sig, table, state, all, i, *u)?;
+        note_parted(pairs, sig, table, state, sorted, all, (i, *u))?;
     }
     Ok(())
 }
@@ -126,18 +130,19 @@ pub fn open_identities(
     sig: &Signature,
     table: &Table,
     state: &State,
+    sorted: bool,
     all: &[Seq<usize>],
 ) -> Result<Vec<(usize, usize)>, NoMemory>
     requires closed { IsClosed sig.now table.now state.now }
-    requires heights { All (λ h. AreHeights sig.now table.now state.now h) all.now }
-    ensures { IfOk result (λ pairs. All (ArePartedOpen sig.now table.now state.now) pairs.items) }
+    requires heights { All (λ h. AreHeights sig.now table.now state.now sorted h) all.now }
+    ensures { IfOk result (λ pairs. All (ArePartedOpen sig.now table.now state.now sorted) pairs.items) }
 {
     let mut pairs = Vec::new(alloc);
     if all.is_empty() {
         return Ok(pairs);
     }
     for i in 0..table.nodes().len() {
-        note_identities(&mut pairs, sig, table, state, all, i)?;
+        note_identities(&mut pairs, sig, table, state, sorted, all, i)?;
     }
     Ok(pairs)
 }

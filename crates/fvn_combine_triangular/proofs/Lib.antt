@@ -1,6 +1,7 @@
 -- The lemmas of the crate.
 mod Simple
 mod Ordering
+mod Notes
 mod Naming
 mod Members
 mod Occurring

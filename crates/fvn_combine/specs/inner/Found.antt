@@ -78,7 +78,7 @@ module _ (k : Combining) where
   -- more general unifiers are enough, and a loose class parts the nodes
   pub record MayPart (s : State) (i j : ℕ) : Type 0 where
     pub enough : k.general ≡ true
-    pub parted : AreParted k.declarations k.table s i j
+    pub parted : AreParted k.declarations k.table s k.sorted i j
 
   -- so it is of two nodes of which it is open whether they are in one class
   abbrev pub MayPartOpen : State → ℕ × ℕ → Type 0

@@ -1,15 +1,18 @@
 -- What is checked of each node, so that guessed heights are those of the classes in which a loose class stands.
-use Rattle.std.specs.Prelude.{◌≡◌, ◌≢◌, ◌⊎◌, ℕ, ◌<◌, ◌≤◌, Bool, true, List, length, slice_get, slice_index_or, Option, Some, None, All, Any}
+use Rattle.std.specs.Prelude.{◌≡◌, ◌≢◌, ◌⊎◌, ℕ, ◌<◌, ◌≤◌, Bool, true, List, [], length, slice_get, slice_index_or, Option, Some, None, All, Any}
 use Rattle.fvn_terms.specs.declared.plain.Var.{Var as Variable}
 use Rattle.fvn_terms.specs.declared.plain.OpId.{OpId}
 use Rattle.fvn_terms.specs.declared.plain.SortId.{SortId}
 use Rattle.fvn_terms.specs.declared.declarations.Declarations.{Declarations}
+use Rattle.fvn_terms.specs.Signature.{axioms}
+use Rattle.fvn_terms.specs.Equality.{IsAssociative}
 use Rattle.fvn_terms.specs.Sorts.{HasSort}
 use Rattle.fvn_combine_nodes.specs.Table.{NodeTable, IsOver, term_at}
 use Rattle.fvn_combine_nodes.specs.States.{class_of}
 use Rattle.fvn_combine_nodes.specs.declared.state.State.{State}
 use Rattle.fvn_combine_nodes.specs.declared.table.Node.TheVariants.{Var}
-use Rattle.fvn_combine_loose.specs.Loose.{height_of, IsRaised, IsIdle, AreMadeAlike, IsLooseClass, AreHeights}
+use Rattle.fvn_combine_inferring.specs.Rows.{HoldsSummands, IsHeld}
+use Rattle.fvn_combine_loose.specs.Loose.{height_of, IsRaised, IsIdle, AreMadeAlike, IsSumOver, Bears, IsBearing, IsSumSort, IsHeaded, HaveSort, IsLoose}
 
 -- node i is marked
 abbrev pub IsMarked : List Bool → ℕ → Type 0
@@ -84,7 +87,63 @@ module _ (d : Declarations) (t : NodeTable) (s : State) where
     pub heads : List (Option ℕ)
     pub each : EachIsFine heads marks
 
-  -- these nodes are of loose classes, and these are heights of such classes
-  pub record AreFound (classes : List ℕ) (all : List (List ℕ)) : Type 0 where
-    pub classes_loose : All (IsLooseClass d t s) classes
-    pub all_heights : All (AreHeights d t s) all
+  -- where node i is a variable, what operators head in its class has its sort
+  abbrev pub IsKept : ℕ → Type 0
+  IsKept i = (x : Variable) → slice_get t.nodes i ≡ Some (Var x) → AreOfSort i x.sort
+
+  -- so is each marked node
+  abbrev pub EachIsKept : List Bool → Type 0
+  EachIsKept marks = (k : ℕ) → IsMarked marks k → IsKept k
+
+  -- the class of node z is loose by as many heights as there are nodes, without sums
+  abbrev pub IsLooseBy : ℕ → List ℕ → Type 0
+  IsLooseBy z heights = (length heights ≡ length t.nodes) × ((sorted : Bool) → IsLoose d t s sorted z heights [])
+
+module _ (d : Declarations) (t : NodeTable) (s : State) (sorted : Bool) where
+  -- terms of the sort are sums of f of such terms alone, and an operator heads the class of node p, in which all have the sort
+  pub record TakesSums (f : OpId) (p : ℕ) (sort : SortId) : Type 0 where
+    pub sum_sort : IsSumSort d f sort
+    pub headed : IsHeaded d t s sorted p
+    pub sorts : HaveSort d t s sorted p sort
+
+  -- where node i is a variable, its sort is such a one
+  abbrev pub VariableTakesSums : OpId → ℕ → ℕ → Type 0
+  VariableTakesSums f p i = (x : Variable) → slice_get t.nodes i ≡ Some (Var x) → TakesSums f p x.sort
+
+  -- an operator heads the class of node i, or it is known to hold the summands of that of node p, and may have any others
+  abbrev pub IsFilled : OpId → ℕ → ℕ → Type 0
+  IsFilled f p i = IsHeaded d t s sorted i ⊎ (HoldsSummands d t s sorted f p i × VariableTakesSums f p i)
+
+  module _ (heights : List ℕ) (sums : List (Option (OpId × ℕ))) where
+    -- where an operator heads node i, the node is idle, or it adds what bears p to what the loose class does not stand in
+    abbrev pub IsAdding : OpId → ℕ → ℕ → Type 0
+    IsAdding f p i = (g : OpId) (ks : List ℕ) → IsOver t.nodes i g ks → IsIdle t s i g ks ⊎ ((g ≡ f) × IsBearing s heights sums f p ks)
+
+    -- f is associative, and the loose class stands in the class of node p, which is lower than that of node i
+    pub record IsPart (f : OpId) (p i : ℕ) : Type 0 where
+      pub associative : IsAssociative (axioms d f)
+      pub within : p < length t.nodes
+      pub stands : 0 < height_of s heights p
+      pub lower : height_of s heights p < height_of s heights i
+
+    -- what is checked of node i, the class of which is noted as a sum of f over p
+    pub record IsAdded (f : OpId) (p i : ℕ) : Type 0 where
+      pub part : IsPart f p i
+      pub adding : IsAdding f p i
+      pub kept : IsKept d t s i
+      pub filled : IsFilled f p i
+
+    -- What is checked of node i, by which z's class is loose: it is above its arguments or idle. In z's class it is idle; in another class
+    -- it is marked where the loose class stands in it and no sum is noted, and added where one is.
+    pub record IsPut (marks : List Bool) (z i : ℕ) : Type 0 where
+      pub raised : AreRaised t s heights i
+      pub bottom : class_of s i ≡ class_of s z → IsOpenNode t s i
+      pub marked : class_of s i ≢ class_of s z → slice_index_or sums (class_of s i) None ≡ None → 0 < height_of s heights i → IsMarked marks i
+      pub sum : class_of s i ≢ class_of s z → (f : OpId) (p : ℕ) → IsSumOver s heights sums f p i → IsAdded f p i
+
+  -- What is known of the nodes before the classes are looked at one by one: which nodes are fine, which are kept, sorts of nodes, and what
+  -- classes hold whatever values go with the state.
+  pub record AreFacts (fine kept : List Bool) (held : List (OpId × ℕ × ℕ)) : Type 0 where
+    pub fine_nodes : AreFine d t s fine
+    pub kept_nodes : EachIsKept d t s kept
+    pub holding : All (IsHeld d t s sorted) held

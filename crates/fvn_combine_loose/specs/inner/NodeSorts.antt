@@ -1,11 +1,11 @@
 -- The sorts that are known of the nodes of a table.
-use Rattle.std.specs.Prelude.{◌≡◌, ℕ, ◌<◌, List, length, map, slice_get, slice_index_or, Option, Some, Contains}
+use Rattle.std.specs.Prelude.{◌≡◌, ℕ, ◌<◌, All, List, length, map, slice_get, slice_index_or, Option, Some, Contains}
 use Rattle.fvn_terms.specs.declared.plain.OpId.{OpId}
 use Rattle.fvn_terms.specs.declared.plain.SortId.{SortId}
 use Rattle.fvn_terms.specs.declared.declarations.Rank.{Rank}
 use Rattle.fvn_terms.specs.declared.declarations.Declarations.{Declarations}
 use Rattle.fvn_terms.specs.Term.{app, pack}
-use Rattle.fvn_terms.specs.Signature.{declared}
+use Rattle.fvn_terms.specs.Signature.{declared, kind, AtOrBelow}
 use Rattle.fvn_terms.specs.Sorts.{HasSort}
 use Rattle.fvn_combine_nodes.specs.Table.{term_at}
 use Rattle.fvn_combine_nodes.specs.declared.table.Node.{Node}
@@ -23,3 +23,8 @@ module _ (d : Declarations) (nodes : List Node) where
   -- where the rank is one of an operator, this over the nodes has the sort
   abbrev pub IsGivenBy : List ℕ → Rank → SortId → Type 0
   IsGivenBy ks rank s = (f : OpId) → Contains (declared d f).ranks rank → HasSort d (app f (pack (map (term_at nodes) ks))) s
+
+-- the rank gives the kind of the sort, and takes sorts at or below it alone where it gives one of these
+pub record IsWithin (d : Declarations) (sort : SortId) (r : Rank) : Type 0 where
+  pub kinds : kind d r.result ≡ kind d sort
+  pub below : AtOrBelow d r.result sort → All (λ s. AtOrBelow d s sort) r.args

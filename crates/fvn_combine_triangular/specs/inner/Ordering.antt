@@ -1,5 +1,5 @@
 -- Orders of bindings.
-use Rattle.std.specs.Prelude.{◌≡◌, ◌↔◌, ℕ, ◌<◌, slice_get, Some, All, Contains}
+use Rattle.std.specs.Prelude.{◌≡◌, ◌↔◌, ◌⊎◌, ℕ, ◌<◌, List, [], ◌∷◌, slice_get, Some, All, Contains}
 use Rattle.fvn_terms.specs.declared.plain.Var.{Var}
 use Rattle.fvn_terms.specs.Substitution.{Occurs}
 use Rattle.fvn_forms.specs.Flat.{FlatTerm, plain}
@@ -27,3 +27,18 @@ HasNoOrder bindings =
 -- the bindings in an order in which no variable that was replaced comes again
 abbrev pub IsOrderOf : Bindings → Bindings → Type 0
 IsOrderOf bindings placed = IsTriangular placed × ((b : Var × FlatTerm) → Contains placed b ↔ Contains bindings b)
+
+-- the list with those added of which this holds
+abbrev pub HasListed : List Var → List Var → (Var → Type 0) → Type 0
+HasListed before now P = (y : Var) → Contains now y ↔ (Contains before y ⊎ P y)
+
+-- the variables of the form
+abbrev pub AreVarsOf : FlatTerm → List Var → Type 0
+AreVarsOf t vars = (y : Var) → Contains vars y ↔ Occurs y (plain t)
+
+-- for each binding the variables of its form
+abbrev pub AreNotes : Bindings → List (List Var) → Type 0
+AreNotes [] [] = Unit
+AreNotes [] (w ∷ ws) = ⊥
+AreNotes (b ∷ bindings) [] = ⊥
+AreNotes (b ∷ bindings) (w ∷ ws) = AreVarsOf b.1 w × AreNotes bindings ws

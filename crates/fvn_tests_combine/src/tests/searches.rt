@@ -187,6 +187,15 @@ general A0 A1 h = A2 A3 h; A0 A4 i = A2 A5 i => few | 3 20
 100 200 A0 A1 k = A2 A3 k; A4 = A3 A5 h A6 A7 h i A8 j h i => complete 7
 100 200 A0 A1 h = A2 A3 h; A0 A4 i = A2 A5 i => complete 3";
 
+// Two sums in turn, of which one has an identity, against this one of a variable beside the constant and another variable: the
+// sum below the topmost is one of its summands, and so is one of the other side's variable, which takes it as it is. So nothing is
+// asked of what makes it. Eight and twelve levels. All numbers of unifiers are Maude's.
+const SUMS_IN_TURN: &str =
+    "general A0 j k A1 h A2 h A3 k j k A4 h A5 h A6 k j k A7 h A8 h A9 k j k Aa h Ab h Ac k = Ad j k Ae h => few | 3 3
+general A0 j k A1 h A2 h A3 k j k A4 h A5 h A6 k j k A7 h A8 h A9 k j k Aa h Ab h Ac k j k Ad h Ae h Af k j k Ag h Ah h Ai k = Aj j k Ak h => few | 3 3
+100 200 A0 j k A1 h A2 h A3 k j k A4 h A5 h A6 k j k A7 h A8 h A9 k j k Aa h Ab h Ac k = Ad j k Ae h => complete 3
+100 200 A0 j k A1 h A2 h A3 k j k A4 h A5 h A6 k j k A7 h A8 h A9 k j k Aa h Ab h Ac k j k Ad h Ae h Af k j k Ag h Ah h Ai k = Aj j k Ak h => complete 3";
+
 // An element is no sum of two: there a variable may not be a new one, and both are found.
 const SOLVED_OF_ELEMENTS: &str = "general B0 B1 t = A2 => few | 1 2
 100 200 B0 B1 t = A2 => complete 2";
@@ -194,6 +203,7 @@ const SOLVED_OF_ELEMENTS: &str = "general B0 B1 t = A2 => few | 1 2
 #[test]
 fn what_is_solved_as_it_stands_stays_short(rt: HostRuntime) -> Result<(), NoMemory> {
     assert_rows(&rt, rt.alloc(), SUMS, SOLVED_AS_THEY_STAND)?;
+    assert_rows(&rt, rt.alloc(), SUMS, SUMS_IN_TURN)?;
     assert_rows(&rt, rt.alloc(), BAGS, SOLVED_OF_ELEMENTS)
 }
 

@@ -39,7 +39,7 @@ open_touched-requires-clause-alive c = subst (HaveAlive c.args.task.now.declarat
 pub asked-requires : goal.asked-requires
 asked-requires c =
     let q = subst (IsQuestion c.args.task.now.declarations c.args.task.now.table c.as_slice-4.result.now c.args.state.now) c.in-Some.is c.in_ok-pair.ensures in
-    record { closed = c.requires.near.closed; heads = c.requires.heads; sorted = c.requires.sorted; left = q.0; right = q.1; «open» = q.2 }
+    record { closed = c.requires.near.closed; reading = c.requires.reading; heads = c.requires.heads; sorted = c.requires.sorted; left = q.0; right = q.1; «open» = q.2 }
 
 pub look_at_leaf-requires-clause-leaf : goal.look_at_leaf-requires-clause-leaf
 look_at_leaf-requires-clause-leaf c =

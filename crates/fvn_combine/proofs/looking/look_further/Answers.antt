@@ -16,4 +16,4 @@ pub asked-requires : goal.asked-requires
 asked-requires c =
     let p : ℕ × ℕ = (c.in-Some.i, c.in-Some.j) in
     let q = subst (λ (k : Combining). IsFirstQuestion k.declarations k.table c.args.state.now (Some p)) c.task.view_is c.in-Some.ensures in
-    record { closed = c.requires.closed; heads = c.requires.heads; sorted = c.requires.sorted; left = q.0; right = q.1; «open» = q.2 }
+    record { closed = c.requires.closed; reading = c.requires.reading; heads = c.requires.heads; sorted = c.requires.sorted; left = q.0; right = q.1; «open» = q.2 }

@@ -43,4 +43,4 @@ returns-in_ok-push-in-Together c =
 pub worth_asking-requires : goal.worth_asking-requires
 worth_asking-requires c =
     let q = inferred (goal.at.worth_asking-requires c).In_ok-found (Question c.in-Question.i c.in-Question.j) c.in-Question.is in
-    record { closed = c.requires.closed; left = q.left; right = q.right; «open» = q.undecided }
+    record { closed = c.requires.closed; reading = c.requires.reading; heads = c.requires.heads; sorted = c.requires.sorted; left = q.left; right = q.right; «open» = q.undecided }

@@ -3,4 +3,4 @@ use Rattle.fvn_combine_loose.proofs.Spreading.{loose_variables}
 use Rattle.fvn_combine_loose.proofs.laws.loose_classes_are_variables.Goals as goal
 
 pub returns : goal.returns
-returns c = loose_variables
+returns c = loose_variables c.sorted_unifiers_go_with.ensures

@@ -4,4 +4,4 @@ use Rattle.fvn_combine_loose.specs.Loose.{ArePartedOpen}
 use Rattle.fvn_combine_loose.proofs.parting.note_identities.Given as goal
 
 abbrev pub invariant-loop-u : goal.invariant-loop-u
-invariant-loop-u l = All (ArePartedOpen l.sig l.table l.state) l.pairs.items
+invariant-loop-u l = All (ArePartedOpen l.sig l.table l.state l.sorted) l.pairs.items

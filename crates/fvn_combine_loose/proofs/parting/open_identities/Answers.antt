@@ -6,10 +6,10 @@ use Rattle.fvn_combine_loose.proofs.parting.open_identities.Goals as goal
 
 pub loop-i-init : goal.loop-i-init
 loop-i-init c =
-    let P = ArePartedOpen c.args.sig.now c.args.table.now c.args.state.now in
+    let P = ArePartedOpen c.args.sig.now c.args.table.now c.args.state.now c.args.sorted in
     subst (All P) (sym c.new-pairs.ensures.items) (All-nil P)
 
 pub returns-then-is_empty : goal.returns-then-is_empty
 returns-then-is_empty c =
-    let P = ArePartedOpen c.args.sig.now c.args.table.now c.args.state.now in
+    let P = ArePartedOpen c.args.sig.now c.args.table.now c.args.state.now c.args.sorted in
     subst (All P) (sym c.new-pairs.ensures.items) (All-nil P)
