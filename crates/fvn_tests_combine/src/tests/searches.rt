@@ -124,7 +124,7 @@ const SUMS: &str =
 // Sums of two products below a free operator, one product with the same within it, and one variable on both sides: what is
 // known to be a sum is no constant of its operator, so that nothing is asked of it.
 const SEARCHED_OF_SUMS: &str =
-    "general j A1 i j A0 i A2 A3 i h l A3 i h l = j A4 i j A5 i A6 A3 i h l A3 i h l => few | 25 10
+    "general j A1 i j A0 i A2 A3 i h l A3 i h l = j A4 i j A5 i A6 A3 i h l A3 i h l => few | 15 7
 100 200 j A1 i j A0 i A2 A3 i h l A3 i h l = j A4 i j A5 i A6 A3 i h l A3 i h l => complete 5";
 
 // Towers: a sum below another one, beside a summand with a constant, and this put into itself. Those of k over h against a
@@ -136,11 +136,11 @@ const SEARCHED_OF_SUMS: &str =
 const TOWERS: &str = "general A0 A1 h j A2 h k A3 h j A4 h k = A5 A6 i => few | 3 2
 general A0 A1 h j A2 h k A3 h j A4 h k A5 h j A6 h k = A7 A8 i => few | 3 2
 general A0 A1 h j A2 h k A3 h j A4 h k = A5 A6 k => few | 3 48
-general A0 A1 h j A2 h k A3 h j A4 h k = A5 A6 h j A7 h k A8 h j A9 h k => few | 61 145
+general A0 A1 h j A2 h k A3 h j A4 h k = A5 A6 h j A7 h k A8 h j A9 h k => few | 61 97
 general A0 A1 h j A2 h i A3 h j A4 h i = A5 A6 h => few | 11 2
-general A0 A1 h j A2 h i A3 h j A4 h i A5 i = A6 j l i => few | 17 18
+general A0 A1 h j A2 h i A3 h j A4 h i A5 i = A6 j l i => few | 17 14
 general A0 A1 i j A2 i h A3 i j A4 i h A5 i j A6 i h = A7 l => few | 1 0
-general A0 A1 h A2 i A1 k A2 h A3 i A2 k = A4 A5 h A6 i A5 k A6 h A7 i A6 k => few | 563 2304
+general A0 A1 h A2 i A1 k A2 h A3 i A2 k = A4 A5 h A6 i A5 k A6 h A7 i A6 k => few | 497 794
 general A0 A1 i A2 h A2 i A3 h = A4 A5 i A6 h A6 i A7 h => few | 240 1753
 100 200 A0 A1 h j A2 h k A3 h j A4 h k = A5 A6 i => complete 2 | A0 A1 m A2 m A3 m A4 m A5 m A6 m = A0 A1 m A2 m A3 m A4 m j A4 h A3 j A2 h A0 A1 h k h k m g m; A0 A1 m A2 m A3 m A4 m A5 m A6 m = A0 A1 m A2 m A3 m A4 m g m j A4 h A3 j A2 h A0 A1 h k h k m
 100 200 A0 A1 h j A2 h k A3 h j A4 h k A5 h j A6 h k = A7 A8 i => complete 2
